@@ -1,0 +1,9 @@
+pub mod Ring
+pub mod Bound
+pub mod Test
+pub mod Range
+pub mod Floor
+pub mod Machine
+pub mod Fraction
+pub mod Greatest
+pub mod Computed

@@ -1,0 +1,4 @@
+pub mod Integer
+pub mod Floor
+pub mod Fraction
+pub mod Greatest

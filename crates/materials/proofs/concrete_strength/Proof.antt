@@ -1,0 +1,14 @@
+-- `materials::concrete_strength` meets its contract. Assumes nothing.
+use Rattle.materials.proofs.Strength.{g-is}
+use borrow.Author.Needs.{needs}
+use Rattle.materials.proofs.concrete_strength.Statement.{statement}
+use Rattle.materials.proofs.concrete_strength.Tie as tie
+
+mul-result : tie.Need-mul-result
+mul-result c = search needs
+
+returns : tie.Need-returns
+returns c = g-is (c .args .fck) (c .pre)
+
+pub concrete-strength-spec : {M : Type 1} → statement M
+concrete-strength-spec = tie.close (tie.spec mul-result returns)

@@ -1,0 +1,4 @@
+pub mod Table
+pub mod Situation
+pub mod Strength
+pub mod Answer
