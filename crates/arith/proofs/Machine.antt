@@ -159,6 +159,10 @@ for m Q t h = subst Q (sym (value m t)) h
 pub result : {r z : ℤ} → mag r < 2 ^ 63 → r ≡ z → toZ w64 (ofZ w64 r) ≡ z
 result h e = toZ-ofZ (record { sfits = h }) ∙ e
 
+-- a field z of a struct, read: `field z (c .struct-told .given .0 .1)`
+pub field : (z : ℤ) → mag z < 2 ^ 63 → toZ w64 (ofZ w64 z) ≡ z
+field z h = result {r = z} h refl
+
 -- a division's need and a remainder's, at a positive divisor: `div-need a b tt h`
 not-zero : (n : ℕ) {z : ℤ} → toZ w64 n ≡ z → pos 0 <ℤ z → 0 < n
 not-zero zero e h = absurd (subst (λ (z : ℤ). pos 0 <ℤ z) (sym e) h .lt)

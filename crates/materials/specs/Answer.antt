@@ -1,9 +1,9 @@
 -- What is answered of fck and fyk, tests 3 and 4 of document 01, and what is promised of the answer. Assumes nothing.
 use Prim.Native.Nat.{ℕ, _≤_}
-use mathlib.Core.Bool.{cond}
 use mathlib.Core.Logic.{_⊎_}
 use mathlib.Core.Path.{_≡_, refl}
 use lib.IntN.{ℤ, pos, natAbs}
+use Rattle.arith.specs.Chain.{unless}
 use Rattle.arith.specs.Integer.{inRange}
 use Rattle.materials.specs.declared.Materials.{Materials}
 use Rattle.materials.specs.declared.Answer.{Answer}
@@ -22,7 +22,8 @@ numbers j fck fyk t e =
 abbrev pub answered : Situation → ℤ → ℤ → Row → Answer
 answered j fck fyk Missing = Refused 3
 answered j fck fyk (Found t e) =
-    cond (inRange (pos 400) (pos 600) fyk) (Known (numbers j (natAbs fck) (natAbs fyk) t e)) (Refused 4)
+    unless (inRange (pos 400) (pos 600) fyk) (Refused 4)
+    (Known (numbers j (natAbs fck) (natAbs fyk) t e))
 
 -- Sealed: no part above sees more of it than the promise.
 pub materialsOf : ℤ → ℤ → Answer

@@ -1,0 +1,44 @@
+// A section of reinforced concrete in equilibrium: document 01, "What the engine covers" and "Equilibrium".
+pub mod tests;
+
+use materials::Materials;
+
+// A layer of steel: its depth from the top face in mm, and its area in mm².
+#[repr(C)]
+pub struct Layer {
+    pub depth: u32,
+    pub area: u32,
+}
+
+// What a record can carry. Of `layers` only the first `count` places are read.
+#[repr(C)]
+pub struct Section {
+    pub width: i64,
+    pub height: i64,
+    pub fck: i64,
+    pub fyk: i64,
+    pub count: usize,
+    pub layers: [Layer; 16],
+}
+
+// N and V in newtons, N positive in compression; M in N·mm about mid-height, positive where it compresses the top.
+#[repr(C)]
+pub struct Load {
+    pub n: i64,
+    pub m: i64,
+    pub v: i64,
+}
+
+// What the formulas use of an accepted section besides its layers: b, h and the materials.
+#[repr(C)]
+pub struct Design {
+    pub b: u64,
+    pub h: u64,
+    pub m: Materials,
+}
+
+// A section that passed its tests, or the number of the first that it failed.
+pub enum Accepted {
+    Ready(Design),
+    Refused(u8),
+}
