@@ -1,1 +1,8 @@
 pub mod Walk
+pub mod Usable
+pub mod Rising
+pub mod Nearness
+pub mod Accuracy
+pub mod Found
+pub mod Whole
+pub mod Sizes

@@ -5,8 +5,10 @@ use mathlib.Core.List.{List, [], _∷_}
 use Prim.Native.Nat.{ℕ, zero, suc, _+_, _≤_, _<_}
 use native.Mathlib.Numerals.{add-one}
 use native.Mathlib.Omega.{arith}
+use lib.IntN.{ℤ, pos, _+ℤ_, +ℤ-idr}
 use lib.ListN.{length, take, drop, getD}
 use lib.Seq.{drop-cons, getD-take, length-take-le}
+use Rattle.arith.proofs.Ring.{#, _⊕_, ring}
 use Rattle.arith.proofs.Test.{both-true}
 use Rattle.equilibrium.specs.declared.Layer.{Layer}
 use Rattle.equilibrium.specs.Section.{all}
@@ -39,10 +41,19 @@ module _ (p : Layer → Bool) (t : Bool) (ls : List Layer) {zs : List Layer} whe
   pub all-done : zs ≡ [] → t && all p zs ≡ all p ls → t ≡ all p ls
   all-done nx inv = sym (and-true t) ∙ (rw nx at inv)
 
--- what passed of all layers passed of the next one and of those after it
-module _ (p : Layer → Bool) {zs ys : List Layer} {l : Layer} (nx : zs ≡ l ∷ ys) (e : all p zs ≡ true) where
-  pub all-here : p l ≡ true
-  all-here = both-true (p l) (all p ys) (rw nx at e) .0
+-- what passed of all layers passes of the one at i
+all-drop : (p : Layer → Bool) (i : ℕ) (ls : List Layer) → all p ls ≡ true → all p (drop i ls) ≡ true
+all-drop p zero ls e = e
+all-drop p (suc i) [] e = refl
+all-drop p (suc i) (l ∷ ls) e = all-drop p i ls (both-true (p l) (all p ls) e .1)
 
-  pub all-after : all p ys ≡ true
-  all-after = both-true (p l) (all p ys) (rw nx at e) .1
+pub all-at : (p : Layer → Bool) (i : ℕ) (ls : List Layer) {ys : List Layer} {l : Layer} → all p ls ≡ true → drop i ls ≡ l ∷ ys → p l ≡ true
+all-at p i ls {ys} {l} e nx = both-true (p l) (all p ys) (rw nx at (all-drop p i ls e)) .0
+
+-- a sum f over the layers, taken so far to `sum`
+module _ (f : List Layer → ℤ) (sum : ℤ) {total : ℤ} {zs : List Layer} (so-far : sum +ℤ f zs ≡ total) where
+  pub sum-step : {ys : List Layer} {l : Layer} (t : ℤ) → zs ≡ l ∷ ys → f (l ∷ ys) ≡ t +ℤ f ys → sum +ℤ t +ℤ f ys ≡ total
+  sum-step {ys} t nx e = ring (# sum ⊕ # t ⊕ # (f ys)) (# sum ⊕ (# t ⊕ # (f ys))) (omega arith) ∙ ap (λ z. sum +ℤ z) (sym e) ∙ (rw nx at so-far)
+
+  pub sum-done : zs ≡ [] → f [] ≡ pos 0 → sum ≡ total
+  sum-done nx e = sym (+ℤ-idr sum) ∙ ap (λ z. sum +ℤ z) (sym e) ∙ (rw nx at so-far)

@@ -1,2 +1,9 @@
 pub mod Section
 pub mod Load
+pub mod Usable
+pub mod Force
+pub mod Whole
+pub mod Turned
+pub mod Depth
+pub mod Moment
+pub mod Accuracy

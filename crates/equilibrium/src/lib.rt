@@ -1,4 +1,5 @@
 // A section of reinforced concrete in equilibrium: document 01, "What the engine covers" and "Equilibrium".
+pub mod resistance;
 pub mod tests;
 
 use materials::Materials;
@@ -40,5 +41,17 @@ pub struct Design {
 // A section that passed its tests, or the number of the first that it failed.
 pub enum Accepted {
     Ready(Design),
+    Refused(u8),
+}
+
+// The depth of the neutral axis, in tenths of a millimetre from the compressed face, or why there is none.
+pub enum Depth {
+    At(u64),
+    Refused(u8),
+}
+
+// A moment resistance in N·mm, or why there is none.
+pub enum Moment {
+    Of(i64),
     Refused(u8),
 }

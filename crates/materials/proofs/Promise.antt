@@ -37,13 +37,11 @@ at-steel a b y all low high =
     let e : 400 + (y - 400) ≡ y = omega arith in
     subst (λ (k : ℕ). a k ≤ b k) e (leb→le _ _ (below (λ (k : ℕ). leb (a (400 + k)) (b (400 + k))) 201 (y - 400) all (omega arith)))
 
-bounds : (k : ℕ) (fyk : ℤ) {t e : ℕ} → find k table ≡ Found t e → Natural 400 600 fyk → Bounds (pos k) fyk (numbers persistent k (natAbs fyk) t e)
+bounds : (k : ℕ) (fyk : ℤ) {t e : ℕ} → find k table ≡ Found t e → Natural 400 600 fyk → Bounds (numbers persistent k (natAbs fyk) t e)
 unfolding by whole ratio _-ᶠ_ _*ᶠ_ _/ᶠ_ roundedDown depthFactor strengthFactor L f g s
 bounds k fyk row y = record {
-  fck-is = refl;
   fck-low = at-row k row (λ k t e. 1) (λ k t e. k) tt;
   fck-high = class-high k row;
-  fyk-is = y .is;
   fyk-low = y .low;
   fyk-high = y .high;
   T-high = at-row k row (λ k t e. t) (λ k t e. 50) tt;
@@ -62,7 +60,7 @@ bounds k fyk row y = record {
 
 -- test 4, of a class that is in the table
 steel-tested : (k : ℕ) (fyk : ℤ) {t e : ℕ} (in-range : Bool) → find k table ≡ Found t e → inRange (pos 400) (pos 600) fyk ≡ in-range → Promised (pos k) fyk (answered persistent (pos k) fyk (Found t e))
-steel-tested k fyk true row y = rw y (bounds k fyk row (natural 400 600 fyk y))
+steel-tested k fyk true row y = let n = natural 400 600 fyk y in rw y (record { fck-is = refl; fyk-is = n .is; bounds = bounds k fyk row n })
 steel-tested k fyk false row y = rw y (inr refl)
 
 class-tested : (k : ℕ) (fyk : ℤ) (r : Row) → find k table ≡ r → Promised (pos k) fyk (answered persistent (pos k) fyk r)

@@ -34,12 +34,10 @@ pub opened : (fck fyk : ℤ) → materialsOf fck fyk ≡ answered persistent fck
 unfolding materialsOf
 opened fck fyk = refl
 
--- The promise of the materials of an fck and an fyk.
-pub record Bounds (fck fyk : ℤ) (m : Materials) : Type 0 where
-  pub fck-is : fck ≡ pos (m .fck)
+-- The promise: the bounds of every number,
+pub record Bounds (m : Materials) : Type 0 where
   pub fck-low : 1 ≤ m .fck
   pub fck-high : m .fck ≤ 90
-  pub fyk-is : fyk ≡ pos (m .fyk)
   pub fyk-low : 400 ≤ m .fyk
   pub fyk-high : m .fyk ≤ 600
   pub T-high : m .t ≤ 50
@@ -55,6 +53,13 @@ pub record Bounds (fck fyk : ℤ) (m : Materials) : Type 0 where
   pub s-low : 1 ≤ m .s
   pub s-high : m .s ≤ 60000
 
+-- of the strengths that were asked for;
+pub record Promise (fck fyk : ℤ) (m : Materials) : Type 0 where
+  pub fck-is : fck ≡ pos (m .fck)
+  pub fyk-is : fyk ≡ pos (m .fyk)
+  pub bounds : Bounds m
+
+-- and no refusal but 3 and 4.
 abbrev pub Promised : ℤ → ℤ → Answer → Type 0
-Promised fck fyk (Known m) = Bounds fck fyk m
+Promised fck fyk (Known m) = Promise fck fyk m
 Promised fck fyk (Refused k) = (k ≡ 3) ⊎ (k ≡ 4)

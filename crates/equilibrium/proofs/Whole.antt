@@ -1,0 +1,79 @@
+-- At a whole depth u stress, force and moment are integers over a natural: what the code computes. Assumes nothing.
+use Prim.Native.Nat.{ℕ, _+_, _-_, _*_, _/_, _≤_}
+use mathlib.Core.Path.{_≡_, ap}
+use mathlib.Core.Bool.{Bool, true, false, cond}
+use native.Mathlib.Omega.{arith}
+use lib.IntN.{ℤ, pos, _-ℤ_, _*ℤ_}
+use lib.Signed.{leZ}
+use Rattle.arith.specs.Fraction.{Fraction, Proper, Ratio, by, whole, ratio, _+ᶠ_, _-ᶠ_, _*ᶠ_, _/ᶠ_, atMost, held, floor}
+use Rattle.arith.specs.Floor.{floorDiv}
+use Rattle.arith.proofs.Ring.{E, #, _⊕_, _⊝_, _⊗_, val, p, n}
+use Rattle.arith.proofs.Fraction.{tidy, Same, by-positive, proper, *ᶠ-comm}
+use Rattle.arith.proofs.Quotient.{same-trans, same-mul, parts, per, per-proper, by-value, floor-same, test-is}
+use Rattle.equilibrium.specs.declared.Layer.{Layer}
+use Rattle.equilibrium.specs.declared.Design.{Design}
+use Rattle.equilibrium.specs.Force.{at, stress, layerForce, concreteMoment, layerMoment}
+use Rattle.equilibrium.specs.Whole.{heldAt, stressAt}
+use Rattle.equilibrium.proofs.Rising.{layer-proper}
+use Rattle.equilibrium.proofs.Nearness.{concrete-moment-proper, layer-moment-proper}
+
+-- ---- a layer
+
+module _ (x : Design) (l : Layer) {u : ℕ} (low : 1 ≤ u) where
+  abbrev limit : E
+  limit = # (pos (x .m .s * u))
+
+  abbrev free : E
+  free = # (pos (100 * x .m .e * u)) ⊝ # (pos (1000 * x .m .e * l .depth))
+
+  abbrev free-stress : Fraction
+  free-stress = whole (x .m .e) *ᶠ (ratio (at u) -ᶠ whole (10 * l .depth)) /ᶠ at u
+
+  low-is : atMost free-stress (whole 0 -ᶠ whole (x .m .s) /ᶠ by 100) ≡ leZ (val free) (val (# (pos 0) ⊝ limit))
+  unfolding whole ratio by _*ᶠ_ _-ᶠ_ _/ᶠ_
+  low-is = test-is _ _ free (# (pos 0) ⊝ limit) (simp tidy (omega arith)) (simp tidy (omega arith))
+
+  high-is : atMost (whole (x .m .s) /ᶠ by 100) free-stress ≡ leZ (val limit) (val free)
+  unfolding whole ratio by _*ᶠ_ _-ᶠ_ _/ᶠ_
+  high-is = test-is _ _ limit free (simp tidy (omega arith)) (simp tidy (omega arith))
+
+  by-tests : (s t : Bool) →
+      Same (cond s (whole 0 -ᶠ whole (x .m .s) /ᶠ by 100) (cond t (whole (x .m .s) /ᶠ by 100) free-stress)) (per (100 * u) (cond s (val (# (pos 0) ⊝ limit)) (cond t (val limit) (val free))))
+  unfolding whole ratio by _*ᶠ_ _-ᶠ_ _/ᶠ_
+  by-tests true t = by-value (# (pos 0) ⊝ limit) (omega arith) (omega arith)
+  by-tests false true = by-value limit (omega arith) (omega arith)
+  by-tests false false = by-value free (omega arith) (omega arith)
+
+  stress-is : Same (stress x l (at u)) (per (100 * u) (stressAt x l u))
+  unfolding stress held heldAt
+  stress-is = rw (low-is, high-is) (by-tests (leZ (val free) (val (# (pos 0) ⊝ limit))) (leZ (val limit) (val free)))
+
+  -- A·(h − 2d) times it, over 200·u, is the layer's moment
+  abbrev moment : E
+  moment = # (pos (l .area)) ⊗ # (stressAt x l u) ⊗ (# (pos (x .h)) ⊝ # (pos (2 * l .depth)))
+
+  moment-same : Same (layerMoment x l (at u)) (per (200 * u) (val moment))
+  unfolding layerMoment layerForce
+  moment-same =
+      let c : Fraction = whole (x .h) /ᶠ by 2 -ᶠ whole (l .depth) in
+      let s : Fraction = per (100 * u) (stressAt x l u) in
+      let ps = per-proper {m = 100 * u} (stressAt x l u) (omega arith) in
+      by-value moment (omega arith)
+      (same-trans {b = s *ᶠ whole (l .area) *ᶠ c} (search proper) (rw (*ᶠ-comm (whole (l .area)) (stress x l (at u))) (same-mul c (same-mul (whole (l .area)) stress-is)))
+      (unfold whole by _*ᶠ_ _-ᶠ_ _/ᶠ_ in record { to = record { le = simp tidy (omega arith) }; fro = record { le = simp tidy (omega arith) } }))
+
+  pub layer-floor : floor (layerMoment x l (at u)) ≡ floorDiv (val moment) (pos (200 * u))
+  layer-floor = floor-same (val moment) (layer-moment-proper x (by-positive u low) l) (omega arith) moment-same
+
+-- ---- the concrete: r is what L·u leaves of 800h
+
+module _ (x : Design) (u r : ℕ) (low : 1 ≤ u) (e : 800 * x .h ≡ x .m .l * u + r) where
+  concrete-same : Same (concreteMoment x (at u)) (per 128000000 (pos (x .m .f * x .b * (x .m .l * u * r))))
+  unfolding concreteMoment whole ratio by _*ᶠ_ _-ᶠ_ _/ᶠ_
+  concrete-same =
+      let k = ap (λ (t : ℕ). x .m .f * x .m .l * x .b * u * t) e in
+      record { to = record { le = simp tidy (omega (arith, k)) }; fro = record { le = simp tidy (omega (arith, k)) } }
+
+  pub concrete-floor : floor (concreteMoment x (at u)) ≡ pos (x .m .f * x .b * (x .m .l * u * r) / 128000000)
+  unfolding floorDiv
+  concrete-floor = floor-same (pos (x .m .f * x .b * (x .m .l * u * r))) (concrete-moment-proper x (by-positive u low)) (omega arith) concrete-same

@@ -1,0 +1,54 @@
+-- The accuracy statement, demand 3 of document 01. Assumes nothing.
+use Prim.Native.Nat.{ℕ, _+_, _*_, _≤_}
+use mathlib.Core.List.{List}
+use lib.IntN.{ℤ}
+use lib.ListN.{length}
+use Rattle.arith.specs.Fraction.{Fraction, Proper, Ratio, by, whole, integer, _+ᶠ_, _-ᶠ_, _*ᶠ_, _/ᶠ_, _≤ᶠ_, _<ᶠ_, _≤ʳ_, _<ʳ_, DifferAtMost}
+use Rattle.equilibrium.specs.declared.Layer.{Layer}
+use Rattle.equilibrium.specs.declared.Section.{Section}
+use Rattle.equilibrium.specs.declared.Design.{Design}
+use Rattle.equilibrium.specs.declared.Accepted.{Accepted}
+use Rattle.equilibrium.specs.declared.Accepted.the-variants as section
+use Rattle.equilibrium.specs.declared.Depth.{Depth}
+use Rattle.equilibrium.specs.declared.Depth.the-variants.{At, Refused}
+use Rattle.equilibrium.specs.Section.{counted, accepted}
+use Rattle.equilibrium.specs.Force.{at, internalForce, unroundedMoment, momentResistance}
+use Rattle.equilibrium.specs.Moment.{momentAt, momentFound}
+
+-- 01's "range": every p/q tenths, q above 0, from 1 to 10h with both ends
+pub record Range (h : ℕ) (y : Ratio) : Type 0 where
+  pub q-low : 1 ≤ y .q
+  pub low : at 1 ≤ʳ y
+  pub high : y ≤ʳ at (10 * h)
+
+module _ (x : Design) (ls : List Layer) (N : ℤ) (u : ℕ) where
+  -- 01's "growth": the internal force at the depth compared less that at u
+  unfoldable pub growth : Ratio → Fraction
+  growth y = internalForce x ls y -ᶠ internalForce x ls (at u)
+
+  -- the allowance: h/2 times the growth, plus 1 N·mm, plus 1 N·mm for each counted layer
+  unfoldable pub allowance : Ratio → Fraction
+  allowance y = whole (x .h) /ᶠ by 2 *ᶠ growth y +ᶠ whole (1 + length ls)
+
+  -- `reported` is the moment reported
+  pub record Accurate (reported : ℤ) : Type 0 where
+    -- the fractions compared have a denominator above 0
+    pub defined : (y : Ratio) → Range (x .h) y → Proper (internalForce x ls y) × Proper (unroundedMoment x ls y)
+    -- the internal force is below N where the depth is less than u,
+    pub below : (y : Ratio) → Range (x .h) y → y <ʳ at u → internalForce x ls y <ᶠ integer N
+    -- at most N at u,
+    pub here : internalForce x ls (at u) ≤ᶠ integer N
+    -- above N from u + 1 on;
+    pub above : (y : Ratio) → Range (x .h) y → at (u + 1) ≤ʳ y → integer N <ᶠ internalForce x ls y
+    -- and from u to u + 1 the unrounded moment differs from the reported one by no more than the allowance
+    pub near : (y : Ratio) → Range (x .h) y → at u ≤ʳ y → y ≤ʳ at (u + 1) → DifferAtMost (allowance y) (unroundedMoment x ls y) (integer reported)
+
+-- Of Find a depth: a depth that is answered is accurate, with the moment that Moment at a depth answers for the same section
+-- and u; and only an accepted section has one.
+abbrev pub AccurateAfter : Section → ℤ → Accepted → Depth → Type 0
+AccurateAfter s N (section.Ready x) (At u) = Accurate x (counted s .layers) N u (momentFound (momentAt s u))
+AccurateAfter s N (section.Refused k) (At u) = ⊥
+AccurateAfter s N a (Refused k) = Unit {0}
+
+abbrev pub AccurateDepth : Section → ℤ → Depth → Type 0
+AccurateDepth s N r = AccurateAfter s N (accepted (counted s)) r
