@@ -6,3 +6,5 @@ pub mod Accuracy
 pub mod Found
 pub mod Whole
 pub mod Sizes
+pub mod Turned
+pub mod DepthOne

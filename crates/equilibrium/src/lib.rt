@@ -1,8 +1,11 @@
 // A section of reinforced concrete in equilibrium: document 01, "What the engine covers" and "Equilibrium".
 pub mod resistance;
 pub mod tests;
+pub mod turning;
 
 use materials::Materials;
+ghost use mathlib.Core.Path.{_≡_};
+ghost use Rattle.equilibrium.specs.Moment.{momentAt};
 
 // A layer of steel: its depth from the top face in mm, and its area in mm².
 #[repr(C)]
@@ -54,4 +57,21 @@ pub enum Depth {
 pub enum Moment {
     Of(i64),
     Refused(u8),
+}
+
+// Moment at a depth, with the top compressed: the moment resistance at u tenths of a millimetre.
+// Refusals: 1 to 7, and 13 where u is not in 1 to 10h.
+pub fn moment_at(s: Section, u: u64) -> Moment
+    ensures { λ r. ⌜ r ≡ momentAt s u ⌝ }
+{
+    match tests::accept(s) {
+        Accepted::Refused(k) => Moment::Refused(k),
+        Accepted::Ready(x) => {
+            if arith::both(1 <= u, u <= 10 * x.h) {
+                Moment::Of(resistance::moment_resistance(x, s, u))
+            } else {
+                Moment::Refused(13)
+            }
+        }
+    }
 }
