@@ -1,0 +1,5 @@
+pub mod Powers
+pub mod Table
+pub mod Factor
+pub mod Layers
+pub mod Roots

@@ -1,0 +1,39 @@
+-- The test kᵉ·a ≤ y: it never comes back, and what it says of a greatest number. Assumes nothing.
+use mathlib.Core.Path.{_≡_, refl, subst, sym}
+use mathlib.Core.Bool.{Bool, true, cond}
+use mathlib.Core.Logic.{_⊎_, ⊎-elim}
+use Prim.Native.Nat.{ℕ, zero, suc, _+_, _*_, _^_, _≤_, _<_}
+use native.Mathlib.Nat.{one-mul, pow-suc, pow-zero, le-trans, mul-le-mul-right, pow-le-pow-left, lt-of-le-of-lt, le-mul-of-pos-right}
+use native.Mathlib.Omega.{arith}
+use lib.Dec.{leb}
+use borrow.Author.Tests.{leb-true, le-leb}
+use Rattle.arith.specs.Greatest.{greatest}
+use Rattle.arith.proofs.Greatest.{NeverBack}
+use Rattle.clauses.specs.Power.{powerAtMost, PowerFits}
+
+pub never-back : (e a y : ℕ) → NeverBack (powerAtMost e a y)
+never-back e a y j k z h t = le-leb _ _ (le-trans (mul-le-mul-right a (pow-le-pow-left h e)) (leb-true _ _ t))
+
+-- a smaller number's product fits too
+pub fits-below : {e a k m : ℕ} → k ≤ m → PowerFits e a m → PowerFits e a k
+fits-below {e} {a} h f = record { exponent = f .exponent; product = lt-of-le-of-lt (mul-le-mul-right a (pow-le-pow-left h e)) (f .product) }
+
+-- the products as the code makes them, factor by factor, and that none of them is larger than the next
+two : (k : ℕ) → k ^ 2 ≡ k * k
+two k = rw (pow-suc k 1, pow-suc k 0, pow-zero k, one-mul k)
+
+pub square : (a k : ℕ) → k ^ 2 * a ≡ a * k * k
+square a k = rw (two k) (omega arith)
+
+pub cube : (a k : ℕ) → k ^ 3 * a ≡ a * k * k * k
+cube a k = rw (pow-suc k 2, two k) (omega arith)
+
+pub grows : (n k : ℕ) → n * k ≤ n * k * k
+grows n zero = omega arith
+grows n (suc k) = le-mul-of-pos-right (n * suc k) (omega arith)
+
+-- two tests that agree have one greatest number
+pub greatest-same : (p q : ℕ → Bool) (m : ℕ) → ((k : ℕ) → p k ≡ q k) → greatest p m ≡ greatest q m
+unfolding greatest
+greatest-same p q zero same = refl
+greatest-same p q (suc m) same = rw (same (suc m), greatest-same p q m same)

@@ -1,0 +1,107 @@
+-- `clauses::tension::layer_sums` meets its contract: each sum so far, with what is left, is the sum over all. Assumes nothing.
+use Prim.Native.Nat.{ℕ, _+_, _-_, _*_, _≤_}
+use mathlib.Core.List.{[]}
+use mathlib.Core.Path.{_≡_}
+use native.Mathlib.Omega.{arith}
+use lib.ListN.{drop}
+use borrow.Author.Needs.{needs}
+use Rattle.equilibrium.specs.declared.Layer.{Layer}
+use Rattle.equilibrium.specs.declared.Section.{Section}
+use Rattle.equilibrium.specs.Section.{layersOf}
+use Rattle.equilibrium.proofs.Walk.{over}
+use Rattle.clauses.specs.Tension.{tensionLayers, total}
+use Rattle.clauses.proofs.Layers.{Summed, sum-step, sum-done, As-high, moment-most, areaOf-high}
+use Rattle.clauses.proofs.tension.layer_sums.Statement.{statement}
+use Rattle.clauses.proofs.tension.layer_sums.Tie as tie
+
+abbrev Inv-loop : tie.InvT-loop
+Inv-loop s u area₀ moment₀ all₀ i₀ area moment all i = (i ≤ s .count) × Summed u (layersOf s) (drop i (layersOf s)) area moment all
+
+abbrev μ-loop : tie.MeasureT-loop
+μ-loop s u area₀ moment₀ all₀ i₀ area moment all i = s .count - i
+
+loop-holds : tie.Need-loop-holds Inv-loop μ-loop
+loop-holds c = search needs
+
+layer-at-requires : tie.Need-layer-at-requires Inv-loop μ-loop
+layer-at-requires c κs = search needs
+
+tension-area-requires : tie.Need-tension-area-requires Inv-loop μ-loop
+tension-area-requires c κs = search needs
+
+-- the sums with the next layer
+module _ (c : tie.After-tension-area Inv-loop μ-loop) where
+  abbrev at : tie.At-loop Inv-loop μ-loop
+  at = c .before .before .before .before
+
+  abbrev s : Section
+  s = at .before .args .s
+
+  abbrev u : ℕ
+  u = at .before .args .u
+
+  abbrev l : Layer
+  l = c .before .layer-at .result
+
+  abbrev a : ℕ
+  a = c .tension-area .result
+
+  summed : Summed u (layersOf s) (drop (at .loop .i + 1) (layersOf s)) (at .loop .area + a) (at .loop .moment + a * l .depth) (at .loop .all + l .area)
+  summed = sum-step (c .before .layer-at .ensures) (c .tension-area .ensures) (at .loop .inv .1)
+
+add-area : tie.Need-add-area Inv-loop μ-loop
+add-area c = omega (arith, summed c .area-is, As-high (s c) (u c) (at c .before .pre))
+
+cast-moment : tie.Need-cast-moment Inv-loop μ-loop
+cast-moment c = search needs
+
+mul-moment : tie.Need-mul-moment Inv-loop μ-loop
+mul-moment c = let t = c .before in omega (arith, summed t .moment-is, moment-most (s t) (u t) (at t .before .pre))
+
+add-moment : tie.Need-add-moment Inv-loop μ-loop
+add-moment c = let t = c .before in omega (arith, summed t .moment-is, moment-most (s t) (u t) (at t .before .pre))
+
+cast-all : tie.Need-cast-all Inv-loop μ-loop
+cast-all c = search needs
+
+add-all : tie.Need-add-all Inv-loop μ-loop
+add-all c = let t = c .before .before in omega (arith, summed t .every-is, areaOf-high (s t) (at t .before .pre))
+
+add-i : tie.Need-add-i Inv-loop μ-loop
+add-i c = search needs
+
+loop-less : tie.Need-loop-less Inv-loop μ-loop
+loop-less c = search needs
+
+loop-again : tie.Need-loop-again Inv-loop μ-loop
+loop-again c = (omega arith, summed (c .before .before))
+
+returns : tie.Need-returns Inv-loop μ-loop
+unfolding total tensionLayers
+returns c =
+    let at = c .before .before in
+    let s = at .before .args .s in
+    let e : at .loop .i ≡ s .count = omega arith in
+    let none : drop (at .loop .i) (layersOf s) ≡ [] = rw e (over (s .count) (s .layers)) in
+    let done = sum-done none (at .loop .inv .1) in
+    (omega (arith, done .area-is), (omega (arith, done .moment-is), omega (arith, done .every-is)))
+
+pub layer-sums-spec : {M : Type 1} → statement M
+layer-sums-spec =
+    tie.close
+    (tie.spec
+    Inv-loop
+    μ-loop
+    loop-holds
+    layer-at-requires
+    tension-area-requires
+    add-area
+    cast-moment
+    mul-moment
+    add-moment
+    cast-all
+    add-all
+    add-i
+    loop-less
+    loop-again
+    returns)

@@ -1,0 +1,23 @@
+-- `clauses::tension::tension_area` meets its contract. Assumes nothing.
+use borrow.Author.Tests.{lt-ltb, le-ltb}
+use borrow.Author.Needs.{needs}
+use Rattle.clauses.proofs.tension.tension_area.Statement.{statement}
+use Rattle.clauses.proofs.tension.tension_area.Tie as tie
+
+cast-if1 : tie.Need-cast-if1
+cast-if1 c = search needs
+
+mul-if1 : tie.Need-mul-if1
+mul-if1 c = search needs
+
+cast-result : tie.Need-cast-result
+cast-result c = search needs
+
+returns : tie.Need-returns
+returns c = rw (lt-ltb _ _ (c .before .if1 .taken))
+
+returns-2 : tie.Need-returns-2
+returns-2 c = rw (le-ltb _ _ (c .if1 .left))
+
+pub tension-area-spec : {M : Type 1} → statement M
+tension-area-spec = tie.close (tie.spec cast-if1 mul-if1 cast-result returns returns-2)

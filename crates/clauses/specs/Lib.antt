@@ -1,0 +1,5 @@
+pub mod Power
+pub mod SizeFactor
+pub mod Tension
+pub mod Shear
+pub mod Verdicts

@@ -1,0 +1,51 @@
+-- The five verdicts, in document 01's sequence. As is the area of the tension layers and dm their mean depth. Assumes nothing.
+use Prim.Native.Nat.{ℕ, _*_, _≤_}
+use mathlib.Core.Bool.{Bool, cond, _&&_}
+use lib.Dec.{leb}
+use lib.IntN.{ℤ, pos, natAbs}
+use lib.Signed.{leZ}
+use Rattle.arith.specs.Chain.{unless}
+use Rattle.clauses.specs.declared.Verdict.{Verdict}
+use Rattle.clauses.specs.declared.Verdict.the-variants.{Pass, Fail, NotReached}
+
+-- 0 is pass, 1 fail, 2 not reached
+abbrev pub numberOf : Verdict → ℕ
+numberOf Pass = 0
+numberOf Fail = 1
+numberOf NotReached = 2
+
+abbrev pub judged : Bool → Verdict
+judged t = cond t Pass Fail
+
+-- with no tension layer, where As is 0, the second, third and fourth verdicts are not reached
+abbrev pub reached : ℕ → Verdict → Verdict
+reached As verdict = unless (leb 1 As) NotReached verdict
+
+-- one, 6.1: pass when |M| ≤ MRd, which may be negative
+abbrev pub first : ℤ → ℤ → Verdict
+first M MRd = judged (leZ (pos (natAbs M)) MRd)
+
+-- two, 5.6.3(2): 10u ≤ 45·dm up to fck 50, else 10u ≤ 35·dm
+abbrev pub second : ℕ → ℕ → ℕ → ℕ → Verdict
+second fck u As dm = reached As (judged (cond (leb fck 50) (leb (10 * u) (45 * dm)) (leb (10 * u) (35 * dm))))
+
+-- three, 6.2.2: pass when |V| ≤ VRd,c
+abbrev pub third : ℤ → ℕ → ℕ → Verdict
+third «V» VRdc As = reached As (judged (leb (natAbs «V») VRdc))
+
+-- four, 9.2.1.1(1): 26·T·b·dm ≤ 1,000·As·fyk and 13·b·dm ≤ 10,000·As
+abbrev pub fourth : ℕ → ℕ → ℕ → ℕ → ℕ → Verdict
+fourth T fyk b As dm =
+    reached As (judged (leb (26 * T * b * dm) (1000 * As * fyk) && leb (13 * b * dm) (10000 * As)))
+
+-- five, 9.2.1.1(3): 25 times the area of all layers ≤ b·h
+abbrev pub fifth : ℕ → ℕ → ℕ → Verdict
+fifth area b h = judged (leb (25 * area) (b * h))
+
+-- what the code asks for the fourth
+pub record LeastBounds (T fyk b As dm : ℕ) : Type 0 where
+  pub T-high : T ≤ 50
+  pub fyk-high : fyk ≤ 600
+  pub b-high : b ≤ 2000
+  pub As-high : As ≤ 320000
+  pub dm-high : dm ≤ 1999
