@@ -3,3 +3,5 @@ pub mod SizeFactor
 pub mod Tension
 pub mod Shear
 pub mod Verdicts
+pub mod Check
+pub mod Accuracy

@@ -11,3 +11,28 @@ pub enum Verdict {
     Fail,
     NotReached,
 }
+
+// What Check finds of an accepted section and load: depth of the neutral axis in tenths of a millimetre, MRd in N·mm,
+// VRd,c in newtons, dm and As in mm and mm², and the five verdicts in document 01's sequence.
+pub struct Report {
+    pub u: u64,
+    pub mrd: i64,
+    pub vrd: u64,
+    pub dm: u64,
+    pub area: u64,
+    // 6.1
+    pub moment: Verdict,
+    // 5.6.3(2)
+    pub depth: Verdict,
+    // 6.2.2
+    pub shear: Verdict,
+    // 9.2.1.1(1)
+    pub least: Verdict,
+    // 9.2.1.1(3)
+    pub most: Verdict,
+}
+
+pub enum Checked {
+    Done(Report),
+    Refused(u8),
+}

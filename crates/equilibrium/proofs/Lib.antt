@@ -8,3 +8,4 @@ pub mod Whole
 pub mod Sizes
 pub mod Turned
 pub mod DepthOne
+pub mod Columns

@@ -4,7 +4,7 @@ use mathlib.Core.Bool.{Bool, true, false, cond}
 use mathlib.Core.List.{List, [], _∷_}
 use mathlib.Core.Path.{_≡_, refl, ap}
 use native.Mathlib.Decide.{decLe}
-use native.Mathlib.Nat.{mul-le-mul, le-trans, div-le-of-le-mul}
+use native.Mathlib.Nat.{mul-le-mul, mul-le-mul-left, le-trans, div-le-of-le-mul}
 use native.Mathlib.Omega.{arith}
 use lib.Dec.{lit≤}
 use lib.IntN.{ℤ, pos, negsuc, natAbs, _-ℤ_}
@@ -22,7 +22,7 @@ use Rattle.equilibrium.specs.declared.Design.{Design}
 use Rattle.equilibrium.specs.Section.{all, depthOk, areaOk}
 use Rattle.equilibrium.specs.Force.{at, concreteMoment, layerMoment, steelResistance, momentResistance}
 use Rattle.equilibrium.specs.Usable.{Bounded, LayerOk, Usable}
-use Rattle.equilibrium.specs.Whole.{DepthOk, heldAt, stressAt}
+use Rattle.equilibrium.specs.Whole.{DepthOk, heldAt, startOf, shareOf, stressAt}
 use Rattle.equilibrium.proofs.Usable.{layer-ok}
 use Rattle.equilibrium.proofs.Whole.{layer-floor, concrete-floor}
 
@@ -55,6 +55,16 @@ held-in {limit} {B} z h = go (leZ z (pos 0 -ℤ limit)) (leZ limit z) refl refl
     go true t e f = up-to (sub-in (lit (pos 0)) h) (omega arith)
     go false true e f = h
     go false false e f = record { within = le-trans (between-in limit z (le-false _ _ e) (le-false _ _ f)) (h .within) }
+
+-- ---- what a trial reads of a layer
+
+pub start-in : {x : Design} {l : Layer} → Bounded x → LayerOk (x .h) l → startOf x l ≤ 1400000000
+start-in {l} b ok =
+    let d : l .depth ≤ 2000 = omega (arith, ok .depth-high, b .h-high) in
+    mul-le-mul (mul-le-mul-left 1000 (b .materials .E-high)) d
+
+pub share-in : {h : ℕ} {l : Layer} → LayerOk h l → shareOf l ≤ 16000000
+share-in ok = mul-le-mul-left 800 (ok .area-high)
 
 -- ---- the moment of a layer, by the bounds of its factors
 

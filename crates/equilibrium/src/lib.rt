@@ -1,11 +1,14 @@
 // A section of reinforced concrete in equilibrium: document 01, "What the engine covers" and "Equilibrium".
 pub mod resistance;
+pub mod search;
 pub mod tests;
 pub mod turning;
 
 use materials::Materials;
 ghost use mathlib.Core.Path.{_≡_};
+ghost use Rattle.equilibrium.specs.Depth.{findDepth};
 ghost use Rattle.equilibrium.specs.Moment.{momentAt};
+ghost use Rattle.equilibrium.specs.Accuracy.{AccurateDepth};
 
 // A layer of steel: its depth from the top face in mm, and its area in mm².
 #[repr(C)]
@@ -57,6 +60,24 @@ pub enum Depth {
 pub enum Moment {
     Of(i64),
     Refused(u8),
+}
+
+// Find a depth, with the top compressed: the greatest u from 1 to 10h tenths of a millimetre at which the internal force is at
+// most N. Refusals: 1 to 7, 8 N out of range, 11 N below the internal force at depth 1, 12 N above that at depth 10h.
+pub fn find_depth(s: Section, n: i64) -> Depth
+    ensures { λ r. ⌜ r ≡ findDepth s n ⌝ }
+    ensures accurate { λ r. ⌜ AccurateDepth s n r ⌝ }
+{
+    match tests::accept(s) {
+        Accepted::Refused(k) => Depth::Refused(k),
+        Accepted::Ready(x) => {
+            if arith::in_range(-500000000, 500000000, n) {
+                search::depth_for(x, s, n)
+            } else {
+                Depth::Refused(8)
+            }
+        }
+    }
 }
 
 // Moment at a depth, with the top compressed: the moment resistance at u tenths of a millimetre.

@@ -1,0 +1,124 @@
+-- `equilibrium::search::fill_columns` meets its contract: the places filled so far hold what a trial reads. Assumes nothing.
+use Prim.Native.Nat.{ℕ, _≤_, _-_}
+use mathlib.Core.Path.{_≡_, subst}
+use native.Mathlib.Omega.{arith}
+use borrow.Author.Needs.{needs}
+use lib.ListN.{length, length-set}
+use Rattle.arith.proofs.Machine.{nat, value}
+use Rattle.equilibrium.specs.Section.{layersOf}
+use Rattle.equilibrium.specs.Usable.{LayerOk}
+use Rattle.equilibrium.specs.Whole.{startOf, shareOf, Columns, Place}
+use Rattle.equilibrium.proofs.Columns.{columns-more}
+use Rattle.equilibrium.proofs.Sizes.{start-in, share-in}
+use Rattle.equilibrium.proofs.Usable.{layer-at-ok}
+use Rattle.equilibrium.proofs.search.fill_columns.Statement.{statement}
+use Rattle.equilibrium.proofs.search.fill_columns.Tie as tie
+
+abbrev Inv-loop : tie.InvT-loop
+Inv-loop x s starts₀ shares₀ i₀ starts shares i =
+    (i ≤ s .count) × (length starts ≡ 16) × (length shares ≡ 16) × Columns x i (layersOf s) starts shares
+
+abbrev μ-loop : tie.MeasureT-loop
+μ-loop x s starts₀ shares₀ i₀ starts shares i = s .count - i
+
+loop-holds : tie.Need-loop-holds Inv-loop μ-loop
+loop-holds c = (omega arith, c .pre .1 .0, c .pre .1 .1, λ k h. absurd (omega arith))
+
+layer-at-requires : tie.Need-layer-at-requires Inv-loop μ-loop
+layer-at-requires c κs = search needs
+
+-- the numbers of the next layer
+module _ (c : tie.After-layer-at Inv-loop μ-loop) where
+  abbrev turn : tie.At-loop Inv-loop μ-loop
+  turn = c .before .before .before
+
+  abbrev begin : tie.Start Inv-loop μ-loop
+  begin = turn .before
+
+  ok : LayerOk (begin .args .x .h) (c .layer-at .result)
+  ok = layer-at-ok (layersOf (begin .args .s)) (turn .loop .i) (begin .pre .0) (c .layer-at .ensures)
+
+  start-most : startOf (begin .args .x) (c .layer-at .result) ≤ 1400000000
+  start-most = start-in (begin .pre .0 .bounded) ok
+
+  share-most : shareOf (c .layer-at .result) ≤ 16000000
+  share-most = share-in ok
+
+mul-starts : tie.Need-mul-starts Inv-loop μ-loop
+mul-starts c = omega (arith, begin (c .before) .pre .0 .bounded .materials .E-high)
+
+cast-starts : tie.Need-cast-starts Inv-loop μ-loop
+cast-starts c = search needs
+
+mul-starts-2 : tie.Need-mul-starts-2 Inv-loop μ-loop
+mul-starts-2 c = omega (arith, start-most (c .before .before))
+
+cast-starts-2 : tie.Need-cast-starts-2 Inv-loop μ-loop
+cast-starts-2 c = omega (arith, start-most (c .before .before))
+
+mul-shares : tie.Need-mul-shares Inv-loop μ-loop
+mul-shares c = search needs
+
+element-set-from-shares : tie.Need-element-set-from-shares Inv-loop μ-loop
+element-set-from-shares c = search needs
+
+cast-shares : tie.Need-cast-shares Inv-loop μ-loop
+cast-shares c = search needs
+
+mul-shares-2 : tie.Need-mul-shares-2 Inv-loop μ-loop
+mul-shares-2 c = omega (arith, share-most (c .before .before .before))
+
+cast-shares-2 : tie.Need-cast-shares-2 Inv-loop μ-loop
+cast-shares-2 c = omega (arith, share-most (c .before .before .before))
+
+mul-t12 : tie.Need-mul-t12 Inv-loop μ-loop
+mul-t12 c = search needs
+
+element-set-from-shares-2 : tie.Need-element-set-from-shares-2 Inv-loop μ-loop
+element-set-from-shares-2 c = search needs
+
+add-i : tie.Need-add-i Inv-loop μ-loop
+add-i c = search needs
+
+loop-less : tie.Need-loop-less Inv-loop μ-loop
+loop-less c = search needs
+
+loop-again : tie.Need-loop-again Inv-loop μ-loop
+loop-again c =
+    let a = c .before .before .before in
+    let l = turn a .loop in
+    let s = begin a .args .s in
+    let next : Place (begin a .args .x) (layersOf s) (l .i) _ _ =
+    record { layer = a .layer-at .result; here = a .layer-at .ensures; start-is = value (nat _ (start-most a) tt) tt; share-is = value (nat _ (share-most a) tt) tt } in
+    (omega arith, simp length-set (l .inv .1), simp length-set (l .inv .2), columns-more _ _ (l .i) (l .starts) (l .shares) (omega arith) (omega arith) (l .inv .3) next)
+
+returns : tie.Need-returns Inv-loop μ-loop
+returns c =
+    let at = c .before .before in
+    let s = at .before .args .s in
+    let e : at .loop .i ≡ s .count = omega arith in
+    subst (λ (k : ℕ). Columns (at .before .args .x) k (layersOf s) (at .loop .starts) (at .loop .shares)) e (at .loop .inv .3)
+
+pub fill-columns-spec : {M : Type 1} → statement M
+fill-columns-spec =
+    tie.close
+    (tie.spec
+    Inv-loop
+    μ-loop
+    loop-holds
+    layer-at-requires
+    mul-starts
+    cast-starts
+    mul-starts-2
+    cast-starts-2
+    mul-shares
+    element-set-from-shares
+    cast-shares
+    mul-shares-2
+    cast-shares-2
+    mul-t12
+    element-set-from-shares-2
+    add-i
+    loop-less
+    loop-again
+    returns)
