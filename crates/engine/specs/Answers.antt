@@ -1,0 +1,13 @@
+-- The answers as C has them: document 01's numbers for each case. Assumes nothing.
+use Rattle.equilibrium.specs.declared.Depth.{Depth}
+use Rattle.equilibrium.specs.declared.Moment.{Moment}
+use Rattle.equilibrium.specs.Depth as depth
+use Rattle.equilibrium.specs.Moment as moment
+use Rattle.engine.specs.declared.DepthAnswer.{DepthAnswer}
+use Rattle.engine.specs.declared.MomentAnswer.{MomentAnswer}
+
+abbrev pub depthAnswer : Depth → DepthAnswer
+depthAnswer d = record { refusal = depth.refusalNumber d; depth = depth.depthFound d }
+
+abbrev pub momentAnswer : Moment → MomentAnswer
+momentAnswer m = record { refusal = moment.refusalNumber m; moment = moment.momentFound m }

@@ -1,0 +1,54 @@
+// The calls of document 01 for C: each answers document 01's numbers, a refusal with zeros. include/salwoerk.h describes them.
+use equilibrium::Depth;
+use equilibrium::Moment;
+use equilibrium::Section;
+ghost use mathlib.Core.Path.{_≡_};
+ghost use Rattle.equilibrium.specs.Depth.{findDepth};
+ghost use Rattle.equilibrium.specs.Moment.{momentAt};
+ghost use Rattle.engine.specs.Answers.{depthAnswer, momentAnswer};
+
+// The refusal, 0 for none, and the depth in tenths of a millimetre.
+#[repr(C)]
+pub struct DepthAnswer {
+    pub refusal: u64,
+    pub depth: u64,
+}
+
+// The refusal, 0 for none, and the moment resistance in N·mm.
+#[repr(C)]
+pub struct MomentAnswer {
+    pub refusal: u64,
+    pub moment: i64,
+}
+
+#[no_mangle]
+pub extern "C" fn salwoerk_find_depth(s: Section, n: i64) -> DepthAnswer
+    ensures { λ r. ⌜ r ≡ depthAnswer (findDepth s n) ⌝ }
+{
+    match equilibrium::find_depth(s, n) {
+        Depth::At(u) => DepthAnswer {
+            refusal: 0,
+            depth: u,
+        },
+        Depth::Refused(k) => DepthAnswer {
+            refusal: k as u64,
+            depth: 0,
+        },
+    }
+}
+
+#[no_mangle]
+pub extern "C" fn salwoerk_moment_at(s: Section, u: u64) -> MomentAnswer
+    ensures { λ r. ⌜ r ≡ momentAnswer (momentAt s u) ⌝ }
+{
+    match equilibrium::moment_at(s, u) {
+        Moment::Of(m) => MomentAnswer {
+            refusal: 0,
+            moment: m,
+        },
+        Moment::Refused(k) => MomentAnswer {
+            refusal: k as u64,
+            moment: 0,
+        },
+    }
+}
