@@ -3,3 +3,4 @@ pub mod Table
 pub mod Factor
 pub mod Layers
 pub mod Roots
+pub mod Checking

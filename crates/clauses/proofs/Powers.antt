@@ -1,11 +1,9 @@
 -- The test kᵉ·a ≤ y: it never comes back, and what it says of a greatest number. Assumes nothing.
-use mathlib.Core.Path.{_≡_, refl, subst, sym}
-use mathlib.Core.Bool.{Bool, true, cond}
-use mathlib.Core.Logic.{_⊎_, ⊎-elim}
-use Prim.Native.Nat.{ℕ, zero, suc, _+_, _*_, _^_, _≤_, _<_}
+use mathlib.Core.Path.{_≡_, refl}
+use mathlib.Core.Bool.{Bool}
+use Prim.Native.Nat.{ℕ, zero, suc, _*_, _^_, _≤_}
 use native.Mathlib.Nat.{one-mul, pow-suc, pow-zero, le-trans, mul-le-mul-right, pow-le-pow-left, lt-of-le-of-lt, le-mul-of-pos-right}
 use native.Mathlib.Omega.{arith}
-use lib.Dec.{leb}
 use borrow.Author.Tests.{leb-true, le-leb}
 use Rattle.arith.specs.Greatest.{greatest}
 use Rattle.arith.proofs.Greatest.{NeverBack}

@@ -1,25 +1,24 @@
 -- The numbers r, q, v and c of the shear resistance: what the code computes of them, how large they are, and that r and q
 -- are the greatest of all numbers that pass, so that their bounds leave nothing out. Assumes nothing.
-use mathlib.Core.Path.{_≡_, refl, sym, ap, _∙_}
+use mathlib.Core.Path.{_≡_, refl, sym}
 use mathlib.Core.Bool.{Bool, true, false, cond}
-use Prim.Native.Nat.{ℕ, zero, suc, _+_, _*_, _/_, _^_, max, _≤_, _<_}
-use native.Mathlib.Nat.{mul-le-mul, mul-le-mul-left, mul-le-mul-right, mul-one, pow-le-pow-left, le-of-mul-le-mul-right, mul-pos, max-le, div-le-of-le-mul, le-trans, lt-of-not-le}
+use Prim.Native.Nat.{ℕ, zero, suc, _*_, _/_, _^_, _≤_, _<_}
+use native.Mathlib.Nat.{mul-le-mul, mul-le-mul-left, mul-one, pow-le-pow-left, le-of-mul-le-mul-right, max-le, div-le-of-le-mul}
 use native.Mathlib.Decide.{decLe}
 use native.Mathlib.Omega.{arith}
 use lib.Dec.{leb, ltb}
-use lib.IntN.{ℤ, pos, negsuc, natAbs, _+ℤ_, _*ℤ_}
+use lib.IntN.{ℤ, pos, negsuc, natAbs}
 use lib.Signed.{leZ, _≤ℤ_, _<ℤ_}
 use borrow.Author.Tests.{leb-true, ltb-false, le-leb}
-use Rattle.arith.specs.Floor.{floorDiv}
 use Rattle.arith.specs.Greatest.{greatest}
 use Rattle.arith.specs.Integer.{Within}
-use Rattle.arith.proofs.Bound.{lit, mul-in, wider}
+use Rattle.arith.proofs.Bound.{lit, mul-in}
 use Rattle.arith.proofs.Floor.{floor-in}
-use Rattle.arith.proofs.Greatest.{greatest-le, le-greatest, greatest-passes}
-use Rattle.arith.proofs.Test.{P-neg-zero, abs-pos}
+use Rattle.arith.proofs.Greatest.{greatest-le, le-greatest}
+use Rattle.arith.proofs.Test.{P-neg-zero}
 use Rattle.clauses.specs.Power.{powerAtMost}
 use Rattle.clauses.specs.SizeFactor.{K}
-use Rattle.clauses.specs.Shear.{rTest, r, qTest, q, v, lesser, c, concreteShare, axialShare, orZero, StressBounds, ShearBounds}
+use Rattle.clauses.specs.Shear.{rTest, r, qTest, q, v, c, concreteShare, axialShare, orZero, StressBounds}
 use Rattle.clauses.proofs.Powers.{greatest-same, cube}
 
 -- ---- how large they are

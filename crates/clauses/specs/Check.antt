@@ -6,6 +6,7 @@ use lib.Dec.{eqb}
 use lib.IntN.{ℤ, pos}
 use lib.Signed.{leZ}
 use Rattle.arith.specs.Chain.{unless}
+use Rattle.arith.specs.Integer.{Within}
 use Rattle.equilibrium.specs.declared.Layer.{Layer}
 use Rattle.equilibrium.specs.declared.Section.{Section}
 use Rattle.equilibrium.specs.declared.Load.{Load}
@@ -17,7 +18,7 @@ use Rattle.equilibrium.specs.declared.Depth.the-variants as depth
 use Rattle.equilibrium.specs.Section.{Counted, counted, accepted}
 use Rattle.equilibrium.specs.Load.{loadRefusal}
 use Rattle.equilibrium.specs.Force.{momentResistance}
-use Rattle.equilibrium.specs.Turned.{turned}
+use Rattle.equilibrium.specs.Turned.{turned, turnedSection}
 use Rattle.equilibrium.specs.Depth.{depthFor}
 use Rattle.clauses.specs.declared.Verdict.{Verdict}
 use Rattle.clauses.specs.declared.Report.{Report}
@@ -27,9 +28,18 @@ use Rattle.clauses.specs.Tension.{areaOf, As, dm}
 use Rattle.clauses.specs.Shear.{VRdc}
 use Rattle.clauses.specs.Verdicts.{numberOf, first, second, third, fourth, fifth}
 
+-- a load that passed the tests 8 to 10
+pub record LoadOk (load : Load) : Type 0 where
+  pub n-in : Within (load .n) 500000000
+  pub m-in : Within (load .m) 1000000000000
+  pub v-in : Within (load .v) 500000000
+
 -- the layers as the compressed face sees them: the top for M ≥ 0, and for M < 0 the section turned over
 abbrev pub facing : ℤ → ℕ → List Layer → List Layer
 facing M h ls = cond (leZ (pos 0) M) ls (turned h ls)
+
+abbrev pub facedSection : ℤ → ℕ → Section → Section
+facedSection M h s = cond (leZ (pos 0) M) s (turnedSection h s)
 
 -- u, MRd, VRd,c, dm, As and the five verdicts, for the face compressed
 module _ (x : Design) (ls : List Layer) (load : Load) (u : ℕ) where

@@ -1,9 +1,18 @@
 // What the clauses of EN 1992-1-1 say of a section and its load: document 01, "Verdicts".
+pub mod check;
 pub mod power;
 pub mod shear;
 pub mod size;
 pub mod tension;
 pub mod verdicts;
+
+use equilibrium::Accepted;
+use equilibrium::Load;
+use equilibrium::Section;
+use equilibrium::tests;
+ghost use mathlib.Core.Path.{_≡_};
+ghost use Rattle.clauses.specs.Check.{checkOf};
+ghost use Rattle.clauses.specs.Accuracy.{AccurateCheck};
 
 // What a clause says of the section: 0, 1 and 2 of document 01.
 pub enum Verdict {
@@ -35,4 +44,23 @@ pub struct Report {
 pub enum Checked {
     Done(Report),
     Refused(u8),
+}
+
+// Check a section under a load, for the face that M compresses.
+// Refusals: 1 to 7 of the section, 8 N, 9 M and 10 V out of range, 11 and 12 N outside what the face compressed can carry.
+pub fn check_section(s: Section, l: Load) -> Checked
+    ensures { λ r. ⌜ r ≡ checkOf s l ⌝ }
+    ensures accurate { λ r. ⌜ AccurateCheck s l r ⌝ }
+{
+    match tests::accept(s) {
+        Accepted::Refused(k) => Checked::Refused(k),
+        Accepted::Ready(x) => {
+            let k = tests::load_refusal(l);
+            if k == 0 {
+                check::check_accepted(x, s, l)
+            } else {
+                Checked::Refused(k)
+            }
+        }
+    }
 }

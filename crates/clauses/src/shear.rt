@@ -3,7 +3,6 @@ use super::power::greatest_power;
 use super::size::size_factor;
 ghost use mathlib.Core.Path.{_≡_};
 ghost use Prim.Native.Nat.{max, _*_, _≤_};
-ghost use lib.IntN.{pos};
 ghost use Rattle.arith.specs.Integer.{Within};
 ghost use Rattle.clauses.specs.Shear.{r, q, v, c, concreteShare, axialShare, orZero, VRdc, StressBounds, ShearBounds};
 

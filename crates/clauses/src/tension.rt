@@ -31,7 +31,7 @@ fn tension_area(u: u64, l: Layer) -> u64
     }
 }
 
-// The one loop over the layers.
+// The one loop over the layers. It reads the place itself: `layer_at` would copy the section for each layer.
 fn layer_sums(s: Section, u: u64) -> Sums
     requires { ⌜ Counts s ⌝ }
     ensures { λ r. ⌜ (r .area ≡ As u (layersOf s)) × ((r .moment ≡ momentOf (tensionLayers u (layersOf s))) × (r .all ≡ areaOf (layersOf s))) ⌝ }
@@ -41,7 +41,7 @@ fn layer_sums(s: Section, u: u64) -> Sums
     let mut all: u64 = 0;
     let mut i: usize = 0;
     while i < s.count {
-        let l = equilibrium::tests::layer_at(s, i);
+        let l = s.layers[i];
         let a = tension_area(u, l);
         area += a;
         moment += a * (l.depth as u64);

@@ -3,6 +3,7 @@ use Prim.Native.Nat.{ℕ, _*_, _≤_}
 use mathlib.Core.Bool.{Bool, true, false, _&&_}
 use mathlib.Core.List.{List}
 use mathlib.Core.Path.{_≡_, refl, sym, subst}
+use native.Mathlib.Omega.{arith}
 use lib.Dec.{leb}
 use lib.IntN.{ℤ}
 use borrow.Author.Tests.{le-leb}
@@ -17,7 +18,8 @@ use Rattle.equilibrium.specs.declared.Depth.{Depth}
 use Rattle.equilibrium.specs.declared.Depth.the-variants.{At, Refused}
 use Rattle.equilibrium.specs.Section.{layersOf, Counted, counted, accepted}
 use Rattle.equilibrium.specs.Load.{forceOk}
-use Rattle.equilibrium.specs.Usable.{Usable}
+use Rattle.equilibrium.specs.Usable.{Bounded}
+use Rattle.equilibrium.specs.Whole.{DepthOk}
 use Rattle.equilibrium.specs.Force.{momentResistance}
 use Rattle.equilibrium.specs.Depth.{carries, reaches, depthFor, depthAfter, depthIn, findDepth}
 use Rattle.equilibrium.specs.Moment.{momentAfter, momentIn, momentAt, momentFound}
@@ -48,6 +50,21 @@ on s N (section.Ready x) e w =
 pub find-accurate : (s : Section) (N : ℤ) → AccurateDepth s N (findDepth s N)
 unfolding depthIn
 find-accurate s N = on s N (accepted (counted s)) refl (usable s)
+
+-- a depth that is answered is one of the range
+pub depth-ok : (x : Design) (ls : List Layer) (N : ℤ) {u : ℕ} → Bounded x → depthFor x ls N ≡ At u → DepthOk x u
+unfolding depthFor
+depth-ok x ls N {u} b e = go (carries x ls N 1) (reaches x ls N) refl e
+  where
+    none : {k : ℕ} → Refused k ≡ At u → DepthOk x u
+    none q = absurd (let z : _≡_ {A = ℕ} 0 1 = cc in omega arith)
+
+    go : (one top : Bool) → carries x ls N 1 ≡ one → unless one (Refused 11) (unless top (Refused 12) (At (greatest (carries x ls N) (10 * x .h)))) ≡ At u → DepthOk x u
+    go false top c q = none q
+    go true false c q = none q
+    go true true c q =
+        let same : greatest (carries x ls N) (10 * x .h) ≡ u = cc in
+        subst (DepthOk x) same (record { low = depth-low x ls N b c; high = depth-high x ls N b c })
 
 -- the second clause of `find_depth` follows from its first
 pub both-clauses : (s : Section) (N : ℤ) {r : Depth} → r ≡ findDepth s N → (r ≡ findDepth s N) × AccurateDepth s N r

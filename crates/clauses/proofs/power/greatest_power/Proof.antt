@@ -1,5 +1,5 @@
 -- `clauses::power::greatest_power` meets its contract: the greatest is one of the candidates from `lo` to `hi`. Assumes nothing.
-use Prim.Native.Nat.{ℕ, _+_, _-_, _/_, _≤_}
+use Prim.Native.Nat.{_-_, _/_}
 use mathlib.Core.Path.{sym, _∙_}
 use native.Mathlib.Omega.{arith}
 use Rattle.arith.proofs.Greatest.{Candidates, start, kept, dropped, found}

@@ -1,14 +1,11 @@
 -- `clauses::shear::axial_share` meets its contract. Assumes nothing.
 use Prim.Native.Nat.{_*_}
-use mathlib.Core.Path.{_≡_, ap, _∙_}
+use mathlib.Core.Path.{_∙_}
 use native.Mathlib.Omega.{arith}
-use lib.IntN.{ℤ, pos, _*ℤ_}
+use lib.IntN.{ℤ, pos}
 use lib.Signed.{_<ℤ_}
-use mir.Facts.{toZ-pos}
-use mir.Syntax.{w64}
-use mir.Val.{toZ}
 use Rattle.arith.specs.Floor.{floorDiv}
-use Rattle.arith.proofs.Machine.{M, M.num, M._⊠_, var, nat, fits, value, for, result, raw}
+use Rattle.arith.proofs.Machine.{M, M.num, M._⊠_, var, nat, fits, value, for, result}
 use Rattle.arith.proofs.Ring.{#, lt! }
 use Rattle.clauses.specs.Shear.{axialShare}
 use borrow.Author.Needs.{needs}

@@ -1,5 +1,4 @@
 -- `clauses::shear::concrete_share` meets its contract. Assumes nothing.
-use Prim.Native.Nat.{_*_, _≤_}
 use native.Mathlib.Nat.{mul-le-mul}
 use native.Mathlib.Omega.{arith}
 use Rattle.clauses.specs.Shear.{concreteShare}

@@ -1,5 +1,6 @@
 -- `clauses::shear::concrete_stress` meets its contract. Assumes nothing.
 use Prim.Native.Nat.{_≤_}
+use mathlib.Core.Path.{refl}
 use native.Mathlib.Nat.{mul-le-mul}
 use native.Mathlib.Omega.{arith}
 use Rattle.clauses.specs.Shear.{v}
@@ -40,7 +41,7 @@ greater-requires c κs = search needs
 returns : tie.Need-returns
 unfolding v
 returns c =
-    rw (c .greater .ensures, c .before .least-root .ensures, c .before .before .ratio-root .ensures, c .before .before .before .size-factor .ensures)
+    rw (c .greater .ensures, c .before .least-root .ensures, c .before .before .ratio-root .ensures, c .before .before .before .size-factor .ensures) refl
 
 pub concrete-stress-spec : {M : Type 1} → statement M
 concrete-stress-spec =

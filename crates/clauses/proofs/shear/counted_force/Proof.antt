@@ -1,7 +1,7 @@
 -- `clauses::shear::counted_force` meets its contract. Assumes nothing.
-use Prim.Native.Nat.{_*_, _/_, _≤_}
+use Prim.Native.Nat.{_*_, _/_}
 use mathlib.Core.Bool.{true, false}
-use mathlib.Core.Path.{_≡_, _∙_}
+use mathlib.Core.Path.{_≡_}
 use native.Mathlib.Nat.{mul-le-mul}
 use native.Mathlib.Omega.{arith}
 use lib.IntN.{pos}

@@ -1,12 +1,10 @@
 -- `clauses::shear::ratio_root` meets its contract. Assumes nothing.
-use Prim.Native.Nat.{_*_, _≤_}
 use mathlib.Core.Logic.{inr}
 use mathlib.Core.Path.{refl, _∙_}
 use native.Mathlib.Nat.{mul-le-mul}
 use native.Mathlib.Omega.{arith}
 use lib.Dec.{lit<}
 use borrow.Author.Tests.{lt-ltb, le-ltb}
-use Rattle.clauses.specs.Shear.{StressBounds}
 use Rattle.clauses.proofs.Roots.{r-rich, r-other}
 use borrow.Author.Needs.{needs}
 use Rattle.clauses.proofs.shear.ratio_root.Statement.{statement}

@@ -1,5 +1,5 @@
 -- `clauses::shear::shear_resistance` meets its contract: both shares, with their signs, fit. Assumes nothing.
-use Prim.Native.Nat.{ℕ, _≤_}
+use Prim.Native.Nat.{ℕ}
 use mathlib.Core.Path.{_≡_, ap, _∙_}
 use native.Mathlib.Omega.{arith}
 use lib.IntN.{ℤ, pos, _+ℤ_}
@@ -9,7 +9,7 @@ use mir.Syntax.{w64}
 use mir.Val.{toZ, ofZ}
 use Rattle.arith.specs.Integer.{Within}
 use Rattle.arith.proofs.Machine.{M, M._⊞_, nat, call, fits, value, result}
-use Rattle.clauses.specs.Shear.{concreteShare, axialShare, orZero, VRdc}
+use Rattle.clauses.specs.Shear.{axialShare, orZero, VRdc}
 use Rattle.clauses.specs.Shear as shear
 use Rattle.clauses.proofs.Roots.{concrete-high, c-in, axial-in}
 use borrow.Author.Needs.{needs}

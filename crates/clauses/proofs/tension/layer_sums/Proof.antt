@@ -1,30 +1,33 @@
 -- `clauses::tension::layer_sums` meets its contract: each sum so far, with what is left, is the sum over all. Assumes nothing.
 use Prim.Native.Nat.{ℕ, _+_, _-_, _*_, _≤_}
-use mathlib.Core.List.{[]}
+use mathlib.Core.List.{[], _∷_}
 use mathlib.Core.Path.{_≡_}
 use native.Mathlib.Omega.{arith}
-use lib.ListN.{drop}
+use lib.ListN.{length, length-map, drop, getD}
 use borrow.Author.Needs.{needs}
 use Rattle.equilibrium.specs.declared.Layer.{Layer}
 use Rattle.equilibrium.specs.declared.Section.{Section}
 use Rattle.equilibrium.specs.Section.{layersOf}
-use Rattle.equilibrium.proofs.Walk.{over}
+use Rattle.equilibrium.proofs.Walk.{next, over}
 use Rattle.clauses.specs.Tension.{tensionLayers, total}
 use Rattle.clauses.proofs.Layers.{Summed, sum-step, sum-done, As-high, moment-most, areaOf-high}
 use Rattle.clauses.proofs.tension.layer_sums.Statement.{statement}
 use Rattle.clauses.proofs.tension.layer_sums.Tie as tie
 
 abbrev Inv-loop : tie.InvT-loop
-Inv-loop s u area₀ moment₀ all₀ i₀ area moment all i = (i ≤ s .count) × Summed u (layersOf s) (drop i (layersOf s)) area moment all
+Inv-loop u s area₀ moment₀ all₀ i₀ area moment all i = (i ≤ s .count) × Summed u (layersOf s) (drop i (layersOf s)) area moment all
 
 abbrev μ-loop : tie.MeasureT-loop
-μ-loop s u area₀ moment₀ all₀ i₀ area moment all i = s .count - i
+μ-loop u s area₀ moment₀ all₀ i₀ area moment all i = s .count - i
 
 loop-holds : tie.Need-loop-holds Inv-loop μ-loop
 loop-holds c = search needs
 
-layer-at-requires : tie.Need-layer-at-requires Inv-loop μ-loop
-layer-at-requires c κs = search needs
+mul-l : tie.Need-mul-l Inv-loop μ-loop
+mul-l c = search needs
+
+element-copy-out-l : tie.Need-element-copy-out-l Inv-loop μ-loop
+element-copy-out-l c = search needs
 
 tension-area-requires : tie.Need-tension-area-requires Inv-loop μ-loop
 tension-area-requires c κs = search needs
@@ -32,22 +35,27 @@ tension-area-requires c κs = search needs
 -- the sums with the next layer
 module _ (c : tie.After-tension-area Inv-loop μ-loop) where
   abbrev at : tie.At-loop Inv-loop μ-loop
-  at = c .before .before .before .before
+  at = c .before .before .before
 
   abbrev s : Section
-  s = at .before .args .s
+  s = at .before .args .t1
 
   abbrev u : ℕ
   u = at .before .args .u
 
   abbrev l : Layer
-  l = c .before .layer-at .result
+  l = getD (s .layers) (at .loop .i) (record { depth = 0; area = 0 })
 
   abbrev a : ℕ
   a = c .tension-area .result
 
+  layer-is : drop (at .loop .i) (layersOf s) ≡ l ∷ drop (at .loop .i + 1) (layersOf s)
+  layer-is =
+      let places : length (s .layers) ≡ 16 = simp length-map at (at .before .good .0 .1 .1 .1 .1 .1 .1 .1 .0 .1 .0 .1) in
+      next (s .layers) (s .count) (at .loop .i) (record { depth = 0; area = 0 }) (omega (arith, at .before .pre .count-high)) (omega arith)
+
   summed : Summed u (layersOf s) (drop (at .loop .i + 1) (layersOf s)) (at .loop .area + a) (at .loop .moment + a * l .depth) (at .loop .all + l .area)
-  summed = sum-step (c .before .layer-at .ensures) (c .tension-area .ensures) (at .loop .inv .1)
+  summed = sum-step layer-is (c .tension-area .ensures) (at .loop .inv .1)
 
 add-area : tie.Need-add-area Inv-loop μ-loop
 add-area c = omega (arith, summed c .area-is, As-high (s c) (u c) (at c .before .pre))
@@ -79,8 +87,8 @@ loop-again c = (omega arith, summed (c .before .before))
 returns : tie.Need-returns Inv-loop μ-loop
 unfolding total tensionLayers
 returns c =
-    let at = c .before .before in
-    let s = at .before .args .s in
+    let at = c .before in
+    let s = at .before .args .t1 in
     let e : at .loop .i ≡ s .count = omega arith in
     let none : drop (at .loop .i) (layersOf s) ≡ [] = rw e (over (s .count) (s .layers)) in
     let done = sum-done none (at .loop .inv .1) in
@@ -93,7 +101,8 @@ layer-sums-spec =
     Inv-loop
     μ-loop
     loop-holds
-    layer-at-requires
+    mul-l
+    element-copy-out-l
     tension-area-requires
     add-area
     cast-moment

@@ -1,4 +1,6 @@
 -- `clauses::tension::tension_area` meets its contract. Assumes nothing.
+use Prim.Native.Nat.{_*_}
+use native.Mathlib.Omega.{arith}
 use borrow.Author.Tests.{lt-ltb, le-ltb}
 use borrow.Author.Needs.{needs}
 use Rattle.clauses.proofs.tension.tension_area.Statement.{statement}
@@ -14,10 +16,14 @@ cast-result : tie.Need-cast-result
 cast-result c = search needs
 
 returns : tie.Need-returns
-returns c = rw (lt-ltb _ _ (c .before .if1 .taken))
+returns c =
+    let a = c .before .before .before .args in
+    rw (lt-ltb (a .u) (10 * a .l .depth) (omega arith))
 
 returns-2 : tie.Need-returns-2
-returns-2 c = rw (le-ltb _ _ (c .if1 .left))
+returns-2 c =
+    let a = c .before .before .args in
+    rw (le-ltb (a .u) (10 * a .l .depth) (omega arith))
 
 pub tension-area-spec : {M : Type 1} → statement M
 tension-area-spec = tie.close (tie.spec cast-if1 mul-if1 cast-result returns returns-2)

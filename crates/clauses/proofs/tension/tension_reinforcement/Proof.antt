@@ -1,5 +1,5 @@
 -- `clauses::tension::tension_reinforcement` meets its contract. Assumes nothing.
-use Prim.Native.Nat.{ℕ, _/_}
+use Prim.Native.Nat.{_/_}
 use mathlib.Core.Path.{_≡_, sym, ap₂, _∙_}
 use native.Mathlib.Nat.{div-zero}
 use Rattle.equilibrium.specs.Section.{layersOf}

@@ -3,6 +3,8 @@ use mathlib.Core.Path.{_≡_, ap, _∙_}
 use lib.IntN.{pos, natAbs}
 use lib.Signed.{leZ}
 use mir.Facts.{toZ-ofZ}
+use mir.Syntax.{w64}
+use mir.Val.{toZ, ofZ}
 use Rattle.arith.proofs.Machine.{M, nat, fits, value}
 use Rattle.clauses.specs.Verdicts.{judged}
 use borrow.Author.Needs.{needs}
@@ -29,7 +31,8 @@ judge-requires c κs = search needs
 returns : tie.Need-returns
 returns c =
     let a = c .before in
-    c .judge .ensures
+    let e : c .judge .result ≡ judged (leZ (toZ w64 (a .magnitude .result)) (toZ w64 (ofZ w64 (a .before .args .mrd)))) = c .judge .ensures in
+    e
     ∙ (λ i. judged (leZ (value (moment a) tt i) (toZ-ofZ (a .before .fits .mrd) i)))
     ∙ ap (λ k. judged (leZ (pos k) (a .before .args .mrd))) (magnitude-is a)
 

@@ -15,7 +15,7 @@ judge-requires : tie.Need-judge-requires
 judge-requires c κs = search needs
 
 returns : tie.Need-returns
-returns c = search needs
+returns c = c .judge .ensures
 
 pub most-verdict-spec : {M : Type 1} → statement M
 most-verdict-spec = tie.close (tie.spec mul-judge mul-judge-2 judge-requires returns)

@@ -1,0 +1,110 @@
+-- What Check answers: the face compressed, and its accuracy. Assumes nothing.
+use Prim.Native.Nat.{ℕ, _*_, _≤_}
+use mathlib.Core.Bool.{Bool, true, false, cond}
+use mathlib.Core.List.{List}
+use mathlib.Core.Path.{_≡_, refl, sym, ap, _∙_}
+use native.Mathlib.Omega.{arith}
+use lib.Dec.{eqb}
+use lib.IntN.{ℤ, pos}
+use lib.Signed.{leZ}
+use Rattle.arith.specs.Chain.{unless}
+use Rattle.arith.specs.Greatest.{greatest}
+use Rattle.arith.proofs.Range.{symmetric}
+use Rattle.equilibrium.specs.declared.Layer.{Layer}
+use Rattle.equilibrium.specs.declared.Section.{Section}
+use Rattle.equilibrium.specs.declared.Load.{Load}
+use Rattle.equilibrium.specs.declared.Design.{Design}
+use Rattle.equilibrium.specs.declared.Accepted.{Accepted}
+use Rattle.equilibrium.specs.declared.Accepted.the-variants as section
+use Rattle.equilibrium.specs.declared.Depth.the-variants as depth
+use Rattle.equilibrium.specs.Section.{layersOf, counted, accepted}
+use Rattle.equilibrium.specs.Load.{forceOk, momentOk, loadRefusal}
+use Rattle.equilibrium.specs.Usable.{Usable}
+use Rattle.equilibrium.specs.Turned.{turned, turnedSection}
+use Rattle.equilibrium.specs.Depth.{carries, reaches, depthFor}
+use Rattle.equilibrium.specs.Accuracy.{Accurate}
+use Rattle.equilibrium.proofs.Usable.{UsableIf, usable, depths-within}
+use Rattle.equilibrium.proofs.Turned.{turned-layers, usable-turned}
+use Rattle.equilibrium.proofs.Accuracy.{accuracy}
+use Rattle.clauses.specs.declared.Checked.{Checked}
+use Rattle.clauses.specs.declared.Checked.the-variants.{Done, Refused}
+use Rattle.clauses.specs.Tension.{Counts}
+use Rattle.clauses.specs.Check.{LoadOk, facing, facedSection, reportAt, reportAfter, checkFace, checkAfter, checkIn, checkOf}
+use Rattle.clauses.specs.Accuracy.{AccurateAfter, AccurateCheck}
+use Rattle.clauses.proofs.Layers.{counts}
+
+pub counted-layers : {x : Design} (s : Section) → Usable x (s .count) (layersOf s) → Counts s
+counted-layers s w = counts s (w .count-high) (w .bounded .h-high) (w .depths) (w .areas)
+
+-- ---- the face compressed
+
+pub usable-facing : {x : Design} {count : ℕ} (M : ℤ) (ls : List Layer) → Usable x count ls → Usable x count (facing M (x .h) ls)
+usable-facing {x} {count} M ls w = go (leZ (pos 0) M)
+  where
+    go : (top : Bool) → Usable x count (cond top ls (turned (x .h) ls))
+    go true = w
+    go false = usable-turned ls w
+
+pub faced-layers : (M : ℤ) (h : ℕ) (s : Section) → layersOf (facedSection M h s) ≡ facing M h (layersOf s)
+faced-layers M h s = go (leZ (pos 0) M)
+  where
+    go : (top : Bool) → layersOf (cond top s (turnedSection h s)) ≡ cond top (layersOf s) (turned h (layersOf s))
+    go true = refl
+    go false = turned-layers h s
+
+pub usable-faced : {x : Design} (M : ℤ) (s : Section) → Usable x (s .count) (layersOf s) → Usable x (facedSection M (x .h) s .count) (layersOf (facedSection M (x .h) s))
+usable-faced {x} M s w = go (leZ (pos 0) M)
+  where
+    go : (top : Bool) → Usable x ((cond top s (turnedSection (x .h) s)) .count) (layersOf (cond top s (turnedSection (x .h) s)))
+    go true = w
+    go false = rw (turned-layers (x .h) s) (usable-turned (layersOf s) w)
+
+-- ---- the load
+
+pub load-ok : (l : Load) → loadRefusal l ≡ 0 → LoadOk l
+load-ok l e = go (forceOk (l .n)) (momentOk (l .m)) (forceOk (l .v)) refl refl refl e
+  where
+    go : (n m v : Bool) → forceOk (l .n) ≡ n → momentOk (l .m) ≡ m → forceOk (l .v) ≡ v → _≡_ {A = ℕ} (unless n 8 (unless m 9 (unless v 10 0))) 0 → LoadOk l
+    go true true true n m v z = record { n-in = symmetric 500000000 (l .n) n; m-in = symmetric 1000000000000 (l .m) m; v-in = symmetric 500000000 (l .v) v }
+    go true true false n m v z = absurd (omega arith)
+    go true false b n m v z = absurd (omega arith)
+    go false a b n m v z = absurd (omega arith)
+
+-- ---- accuracy
+
+abbrev AccurateFace : Design → List Layer → Load → Checked → Type 0
+AccurateFace x ls load (Done r) = Accurate x ls (load .n) (r .u) (r .mrd)
+AccurateFace x ls load (Refused k) = Unit {0}
+
+face-accurate : {count : ℕ} (x : Design) (ls : List Layer) (load : Load) → Usable x count ls → AccurateFace x ls load (checkFace x ls load)
+unfolding checkFace depthFor reportAt
+face-accurate x ls load w = go (carries x ls (load .n) 1) (reaches x ls (load .n)) refl
+  where
+    go : (one top : Bool) → carries x ls (load .n) 1 ≡ one →
+        AccurateFace x ls load (reportAfter x ls load (unless one (depth.Refused 11) (unless top (depth.Refused 12) (depth.At (greatest (carries x ls (load .n)) (10 * x .h))))))
+    go false top c = tt
+    go true false c = tt
+    go true true c = accuracy x ls (load .n) (w .bounded) c (depths-within (x .h) ls (w .depths))
+
+-- a face that is accurate is so after the load's tests too
+on : (ls : List Layer) (load : Load) (x : Design) (t : Bool) (k : ℕ) (r : Checked) → AccurateFace x (facing (load .m) (x .h) ls) load r → AccurateAfter ls load (section.Ready x) (unless t (Refused k) r)
+on ls load x false k r h = tt
+on ls load x true k (Done r) h = h
+on ls load x true k (Refused j) h = tt
+
+after : (ls : List Layer) (load : Load) (count : ℕ) (a : Accepted) → UsableIf count ls a → AccurateAfter ls load a (checkAfter ls load a)
+after ls load count (section.Refused k) w = tt
+after ls load count (section.Ready x) w =
+    on ls load x (eqb (loadRefusal load) 0) (loadRefusal load) _ (face-accurate x (facing (load .m) (x .h) ls) load (usable-facing (load .m) ls w))
+
+pub check-accurate : (s : Section) (load : Load) → AccurateCheck s load (checkOf s load)
+unfolding checkIn
+check-accurate s load = after (layersOf s) load (s .count) (accepted (counted s)) (usable s)
+
+-- the second clause of `check_section` follows from its first
+pub both-clauses : (s : Section) (load : Load) {r : Checked} → r ≡ checkOf s load → (r ≡ checkOf s load) × AccurateCheck s load r
+both-clauses s load e = (e, rw e (check-accurate s load))
+
+-- places beyond the count: sections that differ only there have one answer
+pub beyond-check : (s t : Section) (load : Load) → counted s ≡ counted t → checkOf s load ≡ checkOf t load
+beyond-check s t load e = rw e
