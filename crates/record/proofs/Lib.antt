@@ -1,0 +1,10 @@
+pub mod Laws
+pub mod Bits
+pub mod Digits
+pub mod Known
+pub mod Places
+pub mod Lent
+pub mod Cases
+pub mod Writing
+pub mod Passed
+pub mod RoundTrip

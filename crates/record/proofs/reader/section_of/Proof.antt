@@ -1,0 +1,48 @@
+-- `record::reader::section_of` meets its contract. Assumes nothing.
+use Rattle.arith.proofs.Machine.{result}
+use Rattle.record.specs.Read.{sectionOf}
+use borrow.Author.Needs.{needs}
+use Rattle.record.proofs.reader.section_of.Statement.{statement}
+use Rattle.record.proofs.reader.section_of.Tie as tie
+
+all-layers-requires : tie.Need-all-layers-requires
+all-layers-requires c κs = search needs
+
+number-requires : tie.Need-number-requires
+number-requires c κs = search needs
+
+number-requires-2 : tie.Need-number-requires-2
+number-requires-2 c κs = search needs
+
+number-requires-3 : tie.Need-number-requires-3
+number-requires-3 c κs = search needs
+
+number-requires-4 : tie.Need-number-requires-4
+number-requires-4 c κs = search needs
+
+returns : tie.Need-returns
+unfolding sectionOf
+returns c =
+    let ls = c .before .before .before .before .before .all-layers in
+    let b = c .before .before .before .number in
+    let h = c .before .before .number2 in
+    let fck = c .before .number3 in
+    let fyk = c .number4 in
+    let e0 = result (b .ok) (b .ensures) in
+    let e1 = result (h .ok) (h .ensures) in
+    let e2 = result (fck .ok) (fck .ensures) in
+    let e3 = result (fyk .ok) (fyk .ensures) in
+    let e4 = ls .ensures .0 in
+    let e5 = ls .ensures .1 in
+    cc
+
+pub section-of-spec : {M : Type 1} → statement M
+section-of-spec =
+    tie.close
+    (tie.spec
+    all-layers-requires
+    number-requires
+    number-requires-2
+    number-requires-3
+    number-requires-4
+    returns)

@@ -1,0 +1,24 @@
+// Records: document 01, "The record". A section and its load as bytes, read and written.
+pub mod bytes;
+pub mod map;
+pub mod reader;
+pub mod writer;
+
+use equilibrium::Load;
+use equilibrium::Section;
+
+// What is read: refusal 0 with the record's length, section and load; or the refusal with zeros, and the length where one is named.
+#[repr(C)]
+pub struct Reading {
+    pub refusal: u8,
+    pub length: usize,
+    pub section: Section,
+    pub load: Load,
+}
+
+// What is answered of a write: refusal 0 and the record's length; or the refusal and 0.
+#[repr(C)]
+pub struct Written {
+    pub refusal: u8,
+    pub length: usize,
+}

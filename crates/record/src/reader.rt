@@ -1,0 +1,149 @@
+// Read a record: document 01, "When a call is turned down".
+use super::Reading;
+use super::bytes::big_endian;
+use super::bytes::to_signed;
+use super::map::all_known;
+use super::map::bit_stands;
+use super::map::field_offset;
+use super::map::is_complete;
+use super::map::record_length;
+use equilibrium::Layer;
+use equilibrium::Load;
+use equilibrium::Section;
+ghost use mathlib.Core.Path.{_≡_};
+ghost use Prim.Native.Nat.{_+_, _<_, _≤_};
+ghost use lib.ListN.{length};
+ghost use Rattle.record.specs.Map.{recordLength};
+ghost use Rattle.record.specs.Read.{signedOf, layerAt, layersIn, filled, sectionOf, loadOf, refused, readOf};
+
+// The number of bit k, or 0 where the bit does not stand.
+pub fn number(s: &[u8], map: u32, k: u32) -> i64
+    requires { ⌜ (k < 32) × (recordLength map ≤ length (now s)) ⌝ }
+    ensures { λ r. ⌜ r ≡ signedOf (now (s .entry)) map k ⌝ }
+{
+    if bit_stands(map, k) {
+        let at = field_offset(map, k);
+        to_signed(big_endian(s, at, 8))
+    } else {
+        0
+    }
+}
+
+// The layer whose eight bytes begin at `at`.
+pub fn layer(s: &[u8], at: usize) -> Layer
+    requires { ⌜ at + 8 ≤ length (now s) ⌝ }
+    ensures { λ r. ⌜ r ≡ layerAt (now (s .entry)) at ⌝ }
+{
+    let d = big_endian(s, at, 4) as u32;
+    let a = big_endian(s, at + 4, 4) as u32;
+    Layer { depth: d, area: a }
+}
+
+// The layers of a record, with zeros beyond them.
+pub struct Layers {
+    pub count: usize,
+    pub places: [Layer; 16],
+}
+
+// The layers, by rising bit.
+pub fn all_layers(s: &[u8], map: u32) -> Layers
+    requires { ⌜ recordLength map ≤ length (now s) ⌝ }
+    ensures { λ r. ⌜ (r .count ≡ length (layersIn (now (s .entry)) map)) × (r .places ≡ filled (layersIn (now (s .entry)) map)) ⌝ }
+{
+    let mut places = [Layer { depth: 0, area: 0 }; 16];
+    let mut count = 0usize;
+    let mut k = 8u32;
+    while k < 24 {
+        if bit_stands(map, k) {
+            let at = field_offset(map, k);
+            places[count] = layer(s, at);
+            count += 1;
+        }
+        k += 1;
+    }
+    Layers {
+        count: count,
+        places: places,
+    }
+}
+
+pub fn section_of(s: &[u8], map: u32) -> Section
+    requires { ⌜ recordLength map ≤ length (now s) ⌝ }
+    ensures { λ r. ⌜ r ≡ sectionOf (now (s .entry)) map ⌝ }
+{
+    let l = all_layers(s, map);
+    let places = l.places;
+    Section {
+        width: number(s, map, 0),
+        height: number(s, map, 1),
+        fck: number(s, map, 2),
+        fyk: number(s, map, 3),
+        count: l.count,
+        layers: places,
+    }
+}
+
+pub fn load_of(s: &[u8], map: u32) -> Load
+    requires { ⌜ recordLength map ≤ length (now s) ⌝ }
+    ensures { λ r. ⌜ r ≡ loadOf (now (s .entry)) map ⌝ }
+{
+    Load {
+        n: number(s, map, 4),
+        m: number(s, map, 5),
+        v: number(s, map, 6),
+    }
+}
+
+// A refusal with the length that it names.
+pub fn refuse(number: u8, length: usize) -> Reading
+    ensures { λ r. ⌜ r ≡ refused number length ⌝ }
+{
+    let layers = [Layer { depth: 0, area: 0 }; 16];
+    let section = Section {
+        width: 0,
+        height: 0,
+        fck: 0,
+        fyk: 0,
+        count: 0,
+        layers: layers,
+    };
+    let load = Load { n: 0, m: 0, v: 0 };
+    Reading {
+        refusal: number,
+        length: length,
+        section: section,
+        load: load,
+    }
+}
+
+// The record that the bytes begin with, or why there is none: 20, 21, 22, 23, then 1 to 10.
+pub fn read(bytes: &[u8]) -> Reading
+    ensures { λ r. ⌜ r ≡ readOf (now (bytes .entry)) ⌝ }
+{
+    if bytes.len() < 4 {
+        return refuse(20, 0);
+    }
+    let map = big_endian(bytes, 0, 4) as u32;
+    if !all_known(map) {
+        return refuse(21, 0);
+    }
+    let length = record_length(map);
+    if bytes.len() < length {
+        return refuse(22, 0);
+    }
+    if !is_complete(map) {
+        return refuse(23, length);
+    }
+    let section = section_of(bytes, map);
+    let load = load_of(bytes, map);
+    let k = equilibrium::tests::refusal(section, load);
+    if k != 0 {
+        return refuse(k, length);
+    }
+    Reading {
+        refusal: 0,
+        length: length,
+        section: section,
+        load: load,
+    }
+}
