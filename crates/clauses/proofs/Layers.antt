@@ -12,7 +12,7 @@ use Rattle.arith.proofs.Test.{both-true}
 use Rattle.equilibrium.specs.declared.Layer.{Layer}
 use Rattle.equilibrium.specs.declared.Section.{Section}
 use Rattle.equilibrium.specs.Section.{layersOf, all, depthOk, areaOk}
-use Rattle.clauses.specs.Tension.{inTension, tensionLayers, total, areaOf, momentOf, meanDepth, As, dm, Counts}
+use Rattle.clauses.specs.Tension.{inTension, tensionLayers, total, areaOf, firstMoment, meanDepth, As, dm, Counts}
 
 -- ---- what the tests say of a layer
 depth-low : (h : ℕ) (l : Layer) → depthOk h l ≡ true → 1 ≤ l .depth
@@ -75,7 +75,7 @@ module _ (u : ℕ) where
       next-all p (inTension u l) l (tensionLayers u ls) (t .0) (all-tension p ls (t .1))
 
 -- ---- the mean depth
-pub mean-is : (ts : List Layer) → meanDepth ts ≡ momentOf ts / areaOf ts
+pub mean-is : (ts : List Layer) → meanDepth ts ≡ firstMoment ts / areaOf ts
 unfolding meanDepth total
 mean-is [] = sym (zero-div 0)
 mean-is (l ∷ ls) = refl
@@ -87,16 +87,16 @@ module _ (h : ℕ) where
   moment-low : (l : Layer) → depthOk (suc h) l ≡ true → l .area ≤ 1 * (l .area * l .depth)
   moment-low l e = omega (arith, mul-le-mul-left {m = 1} {n = l .depth} (l .area) (depth-low (suc h) l e))
 
-  pub momentOf-high : (ts : List Layer) → all (depthOk (suc h)) ts ≡ true → momentOf ts ≤ h * areaOf ts
-  momentOf-high ts e = total-le (depthOk (suc h)) (λ l. l .area * l .depth) (λ l. l .area) h moment-high ts e
+  pub firstMoment-high : (ts : List Layer) → all (depthOk (suc h)) ts ≡ true → firstMoment ts ≤ h * areaOf ts
+  firstMoment-high ts e = total-le (depthOk (suc h)) (λ l. l .area * l .depth) (λ l. l .area) h moment-high ts e
 
   pub mean-high : (ts : List Layer) → all (depthOk (suc h)) ts ≡ true → meanDepth ts ≤ h
-  mean-high ts e = rw (mean-is ts) (div-le-of-le-mul (areaOf ts) (omega (arith, momentOf-high ts e)))
+  mean-high ts e = rw (mean-is ts) (div-le-of-le-mul (areaOf ts) (omega (arith, firstMoment-high ts e)))
 
   pub mean-low : (ts : List Layer) → all (depthOk (suc h)) ts ≡ true → 1 ≤ areaOf ts → 1 ≤ meanDepth ts
   mean-low ts e a =
       rw (mean-is ts)
-      (le-div-iff-mul-le {k = areaOf ts} {x = 1} {y = momentOf ts} a .1
+      (le-div-iff-mul-le {k = areaOf ts} {x = 1} {y = firstMoment ts} a .1
       (omega (arith, total-le (depthOk (suc h)) (λ l. l .area) (λ l. l .area * l .depth) 1 moment-low ts e)))
 
 -- ---- a section's sums
@@ -109,8 +109,8 @@ module _ (s : Section) (u : ℕ) (h : Counts s) where
   pub As-high : As u (layersOf s) ≤ 320000
   As-high = le-trans (part-le u (λ l. l .area) (layersOf s)) (areaOf-high s h)
 
-  pub moment-most : momentOf (tensionLayers u (layersOf s)) ≤ 639680000
-  moment-most = omega (arith, As-high, momentOf-high 1999 (tensionLayers u (layersOf s)) (all-tension u (depthOk 2000) (layersOf s) (h .depths)))
+  pub moment-most : firstMoment (tensionLayers u (layersOf s)) ≤ 639680000
+  moment-most = omega (arith, As-high, firstMoment-high 1999 (tensionLayers u (layersOf s)) (all-tension u (depthOk 2000) (layersOf s) (h .depths)))
 
   pub dm-high : dm u (layersOf s) ≤ 1999
   dm-high = mean-high 1999 (tensionLayers u (layersOf s)) (all-tension u (depthOk 2000) (layersOf s) (h .depths))
@@ -144,7 +144,7 @@ counts s n m d a = record { count-high = n; depths = all-deeper m (layersOf s) d
 -- ---- the loop over the layers: zs is what is left of ls
 pub record Summed (u : ℕ) (ls zs : List Layer) (area moment every : ℕ) : Type 0 where
   pub area-is : area + As u zs ≡ As u ls
-  pub moment-is : moment + momentOf (tensionLayers u zs) ≡ momentOf (tensionLayers u ls)
+  pub moment-is : moment + firstMoment (tensionLayers u zs) ≡ firstMoment (tensionLayers u ls)
   pub every-is : every + areaOf zs ≡ areaOf ls
 
 times : (t : Bool) (a d : ℕ) → cond t (a * d) 0 ≡ cond t a 0 * d

@@ -1,6 +1,6 @@
+pub mod Tension
 pub mod Power
 pub mod SizeFactor
-pub mod Tension
 pub mod Shear
 pub mod Verdicts
 pub mod Check

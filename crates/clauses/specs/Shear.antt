@@ -14,10 +14,10 @@ use Rattle.clauses.specs.SizeFactor.{K}
 abbrev pub rTest : ℕ → ℕ → ℕ → ℕ → ℕ → Bool
 rTest b fck As dm r =
     cond (ltb (b * dm) (50 * As))
-    (leb (r ^ 3) (2000000000 * fck))
-    (leb (r ^ 3 * (b * dm)) (100000000000 * As * fck))
+    (leb (r ^ 3) (2 * 10 ^ 9 * fck))
+    (leb (r ^ 3 * (b * dm)) (10 ^ 11 * As * fck))
 
--- no greater number passes, up to fck 90
+-- up to fck 90 no number above 5,646 passes: law `r-greatest`
 unfoldable pub r : ℕ → ℕ → ℕ → ℕ → ℕ
 r b fck As dm = greatest (rTest b fck As dm) 5646
 
@@ -25,7 +25,7 @@ r b fck As dm = greatest (rTest b fck As dm) 5646
 abbrev pub qTest : ℕ → ℕ → ℕ → Bool
 qTest fck k q = leb (1000 * q ^ 2) (k ^ 3 * fck)
 
--- no greater number passes, up to fck 90 and K 2,000
+-- up to fck 90 and K 2,000 no number above 26,832 passes: law `q-greatest`
 unfoldable pub q : ℕ → ℕ → ℕ
 q fck k = greatest (qTest fck k) 26832
 

@@ -25,13 +25,13 @@ total f (l ∷ ls) = f l + total f ls
 abbrev pub areaOf : List Layer → ℕ
 areaOf ls = total (λ l. l .area) ls
 
-abbrev pub momentOf : List Layer → ℕ
-momentOf ls = total (λ l. l .area * l .depth) ls
+abbrev pub firstMoment : List Layer → ℕ
+firstMoment ls = total (λ l. l .area * l .depth) ls
 
 -- the area-weighted mean depth of some layers, rounded down; of no layer 0
 unfoldable pub meanDepth : List Layer → ℕ
 meanDepth [] = 0
-meanDepth (l ∷ ls) = momentOf (l ∷ ls) / areaOf (l ∷ ls)
+meanDepth (l ∷ ls) = firstMoment (l ∷ ls) / areaOf (l ∷ ls)
 
 -- 01's As, the area of the tension layers: 0 with no tension layer
 abbrev pub As : ℕ → List Layer → ℕ

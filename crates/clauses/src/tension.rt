@@ -4,7 +4,7 @@ use equilibrium::Section;
 ghost use mathlib.Core.Bool.{cond};
 ghost use mathlib.Core.Path.{_≡_};
 ghost use Rattle.equilibrium.specs.Section.{layersOf};
-ghost use Rattle.clauses.specs.Tension.{inTension, tensionLayers, areaOf, momentOf, As, dm, Counts};
+ghost use Rattle.clauses.specs.Tension.{inTension, tensionLayers, areaOf, firstMoment, As, dm, Counts};
 
 // The sums over the layers: area and first moment of those in tension, and the area of all.
 pub struct Sums {
@@ -34,7 +34,7 @@ fn tension_area(u: u64, l: Layer) -> u64
 // The one loop over the layers. It reads the place itself: `layer_at` would copy the section for each layer.
 fn layer_sums(s: Section, u: u64) -> Sums
     requires { ⌜ Counts s ⌝ }
-    ensures { λ r. ⌜ (r .area ≡ As u (layersOf s)) × ((r .moment ≡ momentOf (tensionLayers u (layersOf s))) × (r .all ≡ areaOf (layersOf s))) ⌝ }
+    ensures { λ r. ⌜ (r .area ≡ As u (layersOf s)) × ((r .moment ≡ firstMoment (tensionLayers u (layersOf s))) × (r .all ≡ areaOf (layersOf s))) ⌝ }
 {
     let mut area: u64 = 0;
     let mut moment: u64 = 0;

@@ -11,13 +11,21 @@ use lib.Seq.{drop-cons, getD-take, length-take-le}
 use Rattle.arith.proofs.Ring.{#, _⊕_, ring}
 use Rattle.arith.proofs.Test.{both-true}
 use Rattle.equilibrium.specs.declared.Layer.{Layer}
-use Rattle.equilibrium.specs.Section.{all}
+use Rattle.equilibrium.specs.declared.Section.{Section}
+use Rattle.equilibrium.specs.Section.{layersOf, all}
 
--- at i below n the element at i is the next one
-pub next : (ls : List Layer) (n i : ℕ) (z : Layer) → n ≤ length ls → i < n → drop i (take n ls) ≡ getD ls i z ∷ drop (i + 1) (take n ls)
-next ls n i z nb h =
-    let b : i < length (take n ls) = omega (arith, length-take-le n ls nb) in
-    rw (add-one, drop-cons (take n ls) i z b, getD-take n ls i z h)
+-- what stands at a place beyond all
+abbrev pub noLayer : Layer
+noLayer = record { depth = 0; area = 0 }
+
+-- the layer at place i is the next one of those that are counted
+abbrev pub Next : Section → ℕ → Type 0
+Next s i = drop i (layersOf s) ≡ getD (s .layers) i noLayer ∷ drop (i + 1) (layersOf s)
+
+pub next : (s : Section) (i : ℕ) → length (s .layers) ≡ 16 → s .count ≤ 16 → i < s .count → Next s i
+next s i places n h =
+    let b : i < length (layersOf s) = omega (arith, length-take-le (s .count) (s .layers) (omega arith)) in
+    rw (add-one, drop-cons (layersOf s) i noLayer b, getD-take (s .count) (s .layers) i noLayer h)
 
 -- at n nothing is left
 pub over : (n : ℕ) (ls : List Layer) → drop n (take n ls) ≡ []

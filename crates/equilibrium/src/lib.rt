@@ -17,15 +17,16 @@ pub struct Layer {
     pub area: u32,
 }
 
-// What a record can carry. Of `layers` only the first `count` places are read.
+// What a record can carry. Of `layers` only the first `count` places are read. They stand first in memory, where a copy of the
+// section by value is read back without a wait.
 #[repr(C)]
 pub struct Section {
+    pub layers: [Layer; 16],
     pub width: i64,
     pub height: i64,
     pub fck: i64,
     pub fyk: i64,
     pub count: usize,
-    pub layers: [Layer; 16],
 }
 
 // N and V in newtons, N positive in compression; M in N·mm about mid-height, positive where it compresses the top.

@@ -2,7 +2,6 @@
 use super::Design;
 use super::Layer;
 use super::Section;
-use super::tests::layer_at;
 ghost use mathlib.Core.Path.{_≡_};
 ghost use Rattle.arith.specs.Fraction.{floor};
 ghost use Rattle.arith.specs.Integer.{Within};
@@ -60,7 +59,8 @@ fn steel_resistance(x: Design, s: Section, u: u64) -> i64
     let mut sum: i64 = 0;
     let mut i: usize = 0;
     while i < s.count {
-        sum += layer_moment(x, layer_at(s, i), u);
+        let l = s.layers[i];
+        sum += layer_moment(x, l, u);
         i += 1;
     }
     sum

@@ -4,7 +4,6 @@ use super::Depth;
 use super::Design;
 use super::Section;
 use super::resistance::held;
-use super::tests::layer_at;
 ghost use Prim.Native.Nat.{_*_};
 ghost use mathlib.Core.Bool.{true};
 ghost use mathlib.Core.Path.{_≡_};
@@ -23,7 +22,7 @@ fn fill_columns(x: Design, s: Section, starts: &mut [i64; 16], shares: &mut [i64
 {
     let mut i: usize = 0;
     while i < s.count {
-        let l = layer_at(s, i);
+        let l = s.layers[i];
         starts[i] = (1000 * x.m.e * (l.depth as u64)) as i64;
         shares[i] = (800 * (l.area as u64)) as i64;
         i += 1;

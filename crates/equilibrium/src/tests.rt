@@ -12,7 +12,7 @@ ghost use lib.ListN.{drop};
 ghost use Rattle.equilibrium.specs.Section.{layersOf, counted, all, depthOk, areaOk, layersTested, accepted};
 ghost use Rattle.equilibrium.specs.Load.{loadRefusal, refusalOf};
 
-// The layer at a counted place. The one function that indexes the 16 places.
+// The layer at a counted place. A loop that must be quick reads `s.layers[i]` itself: here all places are copied at each call.
 pub fn layer_at(s: Section, i: usize) -> Layer
     requires { ⌜ (i < s .count) × (s .count ≤ 16) ⌝ }
     ensures { λ r. ⌜ drop i (layersOf s) ≡ r ∷ drop (i + 1) (layersOf s) ⌝ }
@@ -46,7 +46,7 @@ pub fn layer_tests(s: Section, h: u64) -> LayerTests
     let mut areas = true;
     let mut i: usize = 0;
     while i < s.count {
-        let l = layer_at(s, i);
+        let l = s.layers[i];
         depths = arith::both(depths, depth_ok(h, l));
         areas = arith::both(areas, area_ok(l));
         i += 1;

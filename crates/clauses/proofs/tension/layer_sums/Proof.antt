@@ -3,12 +3,12 @@ use Prim.Native.Nat.{ℕ, _+_, _-_, _*_, _≤_}
 use mathlib.Core.List.{[], _∷_}
 use mathlib.Core.Path.{_≡_}
 use native.Mathlib.Omega.{arith}
-use lib.ListN.{length, length-map, drop, getD}
+use lib.ListN.{length-map, drop, getD}
 use borrow.Author.Needs.{needs}
 use Rattle.equilibrium.specs.declared.Layer.{Layer}
 use Rattle.equilibrium.specs.declared.Section.{Section}
 use Rattle.equilibrium.specs.Section.{layersOf}
-use Rattle.equilibrium.proofs.Walk.{next, over}
+use Rattle.equilibrium.proofs.Walk.{noLayer, next, over}
 use Rattle.clauses.specs.Tension.{tensionLayers, total}
 use Rattle.clauses.proofs.Layers.{Summed, sum-step, sum-done, As-high, moment-most, areaOf-high}
 use Rattle.clauses.proofs.tension.layer_sums.Statement.{statement}
@@ -44,15 +44,13 @@ module _ (c : tie.After-tension-area Inv-loop μ-loop) where
   u = at .before .args .u
 
   abbrev l : Layer
-  l = getD (s .layers) (at .loop .i) (record { depth = 0; area = 0 })
+  l = getD (s .layers) (at .loop .i) noLayer
 
   abbrev a : ℕ
   a = c .tension-area .result
 
   layer-is : drop (at .loop .i) (layersOf s) ≡ l ∷ drop (at .loop .i + 1) (layersOf s)
-  layer-is =
-      let places : length (s .layers) ≡ 16 = simp length-map at (at .before .good .0 .1 .1 .1 .1 .1 .1 .1 .0 .1 .0 .1) in
-      next (s .layers) (s .count) (at .loop .i) (record { depth = 0; area = 0 }) (omega (arith, at .before .pre .count-high)) (omega arith)
+  layer-is = next s (at .loop .i) (simp length-map at (at .before .good .0 .1 .1 .0 .1 .0 .1)) (at .before .pre .count-high) (omega arith)
 
   summed : Summed u (layersOf s) (drop (at .loop .i + 1) (layersOf s)) (at .loop .area + a) (at .loop .moment + a * l .depth) (at .loop .all + l .area)
   summed = sum-step layer-is (c .tension-area .ensures) (at .loop .inv .1)

@@ -3,58 +3,73 @@ use Prim.Native.Nat.{ℕ, _≤_, _-_}
 use mathlib.Core.Path.{_≡_, subst}
 use native.Mathlib.Omega.{arith}
 use borrow.Author.Needs.{needs}
-use lib.ListN.{length, length-set}
+use lib.ListN.{length, length-map, length-set, getD}
 use Rattle.arith.proofs.Machine.{nat, value}
+use Rattle.equilibrium.specs.declared.Layer.{Layer}
+use Rattle.equilibrium.specs.declared.Section.{Section}
 use Rattle.equilibrium.specs.Section.{layersOf}
 use Rattle.equilibrium.specs.Usable.{LayerOk}
 use Rattle.equilibrium.specs.Whole.{startOf, shareOf, Columns, Place}
 use Rattle.equilibrium.proofs.Columns.{columns-more}
 use Rattle.equilibrium.proofs.Sizes.{start-in, share-in}
 use Rattle.equilibrium.proofs.Usable.{layer-at-ok}
+use Rattle.equilibrium.proofs.Walk.{noLayer, Next, next}
 use Rattle.equilibrium.proofs.search.fill_columns.Statement.{statement}
 use Rattle.equilibrium.proofs.search.fill_columns.Tie as tie
 
 abbrev Inv-loop : tie.InvT-loop
-Inv-loop x s starts₀ shares₀ i₀ starts shares i =
+Inv-loop x starts₀ shares₀ s i₀ starts shares i =
     (i ≤ s .count) × (length starts ≡ 16) × (length shares ≡ 16) × Columns x i (layersOf s) starts shares
 
 abbrev μ-loop : tie.MeasureT-loop
-μ-loop x s starts₀ shares₀ i₀ starts shares i = s .count - i
+μ-loop x starts₀ shares₀ s i₀ starts shares i = s .count - i
 
 loop-holds : tie.Need-loop-holds Inv-loop μ-loop
 loop-holds c = (omega arith, c .pre .1 .0, c .pre .1 .1, λ k h. absurd (omega arith))
 
-layer-at-requires : tie.Need-layer-at-requires Inv-loop μ-loop
-layer-at-requires c κs = search needs
+mul-l : tie.Need-mul-l Inv-loop μ-loop
+mul-l c = search needs
+
+element-copy-out-l : tie.Need-element-copy-out-l Inv-loop μ-loop
+element-copy-out-l c = search needs
 
 -- the numbers of the next layer
-module _ (c : tie.After-layer-at Inv-loop μ-loop) where
+module _ (c : tie.In-loop Inv-loop μ-loop) where
   abbrev turn : tie.At-loop Inv-loop μ-loop
-  turn = c .before .before .before
+  turn = c .before
 
   abbrev begin : tie.Start Inv-loop μ-loop
   begin = turn .before
 
-  ok : LayerOk (begin .args .x .h) (c .layer-at .result)
-  ok = layer-at-ok (layersOf (begin .args .s)) (turn .loop .i) (begin .pre .0) (c .layer-at .ensures)
+  abbrev s : Section
+  s = begin .args .t2
 
-  start-most : startOf (begin .args .x) (c .layer-at .result) ≤ 1400000000
+  abbrev l : Layer
+  l = getD (s .layers) (turn .loop .i) noLayer
+
+  here : Next s (turn .loop .i)
+  here = next s (turn .loop .i) (simp length-map at (begin .good .1 .0 .1 .1 .0 .1 .0 .1)) (begin .pre .0 .count-high) (c .loop-test .taken)
+
+  ok : LayerOk (begin .args .x .h) l
+  ok = layer-at-ok (layersOf s) (turn .loop .i) (begin .pre .0) here
+
+  start-most : startOf (begin .args .x) l ≤ 1400000000
   start-most = start-in (begin .pre .0 .bounded) ok
 
-  share-most : shareOf (c .layer-at .result) ≤ 16000000
+  share-most : shareOf l ≤ 16000000
   share-most = share-in ok
 
 mul-starts : tie.Need-mul-starts Inv-loop μ-loop
-mul-starts c = omega (arith, begin (c .before) .pre .0 .bounded .materials .E-high)
+mul-starts c = omega (arith, begin (c .before .before) .pre .0 .bounded .materials .E-high)
 
 cast-starts : tie.Need-cast-starts Inv-loop μ-loop
 cast-starts c = search needs
 
 mul-starts-2 : tie.Need-mul-starts-2 Inv-loop μ-loop
-mul-starts-2 c = omega (arith, start-most (c .before .before))
+mul-starts-2 c = omega (arith, start-most (c .before .before .before))
 
 cast-starts-2 : tie.Need-cast-starts-2 Inv-loop μ-loop
-cast-starts-2 c = omega (arith, start-most (c .before .before))
+cast-starts-2 c = omega (arith, start-most (c .before .before .before))
 
 mul-shares : tie.Need-mul-shares Inv-loop μ-loop
 mul-shares c = search needs
@@ -66,13 +81,13 @@ cast-shares : tie.Need-cast-shares Inv-loop μ-loop
 cast-shares c = search needs
 
 mul-shares-2 : tie.Need-mul-shares-2 Inv-loop μ-loop
-mul-shares-2 c = omega (arith, share-most (c .before .before .before))
+mul-shares-2 c = omega (arith, share-most (c .before .before .before .before))
 
 cast-shares-2 : tie.Need-cast-shares-2 Inv-loop μ-loop
-cast-shares-2 c = omega (arith, share-most (c .before .before .before))
+cast-shares-2 c = omega (arith, share-most (c .before .before .before .before))
 
-mul-t12 : tie.Need-mul-t12 Inv-loop μ-loop
-mul-t12 c = search needs
+mul-t8 : tie.Need-mul-t8 Inv-loop μ-loop
+mul-t8 c = search needs
 
 element-set-from-shares-2 : tie.Need-element-set-from-shares-2 Inv-loop μ-loop
 element-set-from-shares-2 c = search needs
@@ -85,17 +100,16 @@ loop-less c = search needs
 
 loop-again : tie.Need-loop-again Inv-loop μ-loop
 loop-again c =
-    let a = c .before .before .before in
-    let l = turn a .loop in
-    let s = begin a .args .s in
-    let next : Place (begin a .args .x) (layersOf s) (l .i) _ _ =
-    record { layer = a .layer-at .result; here = a .layer-at .ensures; start-is = value (nat _ (start-most a) tt) tt; share-is = value (nat _ (share-most a) tt) tt } in
-    (omega arith, simp length-set (l .inv .1), simp length-set (l .inv .2), columns-more _ _ (l .i) (l .starts) (l .shares) (omega arith) (omega arith) (l .inv .3) next)
+    let a = c .before .before .before .before in
+    let t = turn a .loop in
+    let filled : Place (begin a .args .x) (layersOf (s a)) (t .i) _ _ =
+    record { layer = l a; here = here a; start-is = value (nat _ (start-most a) tt) tt; share-is = value (nat _ (share-most a) tt) tt } in
+    (omega arith, simp length-set (t .inv .1), simp length-set (t .inv .2), columns-more _ _ (t .i) (t .starts) (t .shares) (omega arith) (omega arith) (t .inv .3) filled)
 
 returns : tie.Need-returns Inv-loop μ-loop
 returns c =
-    let at = c .before .before in
-    let s = at .before .args .s in
+    let at = c .before in
+    let s = at .before .args .t2 in
     let e : at .loop .i ≡ s .count = omega arith in
     subst (λ (k : ℕ). Columns (at .before .args .x) k (layersOf s) (at .loop .starts) (at .loop .shares)) e (at .loop .inv .3)
 
@@ -106,7 +120,8 @@ fill-columns-spec =
     Inv-loop
     μ-loop
     loop-holds
-    layer-at-requires
+    mul-l
+    element-copy-out-l
     mul-starts
     cast-starts
     mul-starts-2
@@ -116,7 +131,7 @@ fill-columns-spec =
     cast-shares
     mul-shares-2
     cast-shares-2
-    mul-t12
+    mul-t8
     element-set-from-shares-2
     add-i
     loop-less

@@ -16,12 +16,12 @@ in-range-requires : tie.Need-in-range-requires
 in-range-requires c κs = search needs
 
 width-is : (c : tie.After-in-range) → c .in-range .result ≡ inRange (pos 50) (pos 2000) (c .before .before .args .s .width)
-width-is c = c .in-range .ensures ∙ ap (inRange (pos 50) (pos 2000)) (field (c .before .before .args .s .width) (c .before .struct-told .given .0 .1))
+width-is c = c .in-range .ensures ∙ ap (inRange (pos 50) (pos 2000)) (field (c .before .before .args .s .width) (c .before .struct-told .given .1 .0 .1))
 
 height-is : (c : tie.After-in-range2) → c .in-range2 .result ≡ inRange (pos 50) (pos 2000) (c .before .before .before .before .before .args .s .height)
 height-is c =
     let s = c .before .before .before .before .before .args .s in
-    c .in-range2 .ensures ∙ ap (inRange (pos 50) (pos 2000)) (field (s .height) (c .before .struct-told2 .given .1 .0 .1))
+    c .in-range2 .ensures ∙ ap (inRange (pos 50) (pos 2000)) (field (s .height) (c .before .struct-told2 .given .1 .1 .0 .1))
 
 returns : tie.Need-returns
 unfolding accepted
@@ -56,7 +56,7 @@ module _ (c : tie.After-look-up) where
   materials-are : c .look-up .result ≡ materialsOf (s .fck) (s .fyk)
   materials-are =
       c .look-up .ensures .0
-      ∙ ap₂ materialsOf (field (s .fck) (c .before .struct-told4 .given .1 .1 .0 .1)) (field (s .fyk) (c .before .struct-told4 .given .1 .1 .1 .0 .1))
+      ∙ ap₂ materialsOf (field (s .fck) (c .before .struct-told4 .given .1 .1 .1 .0 .1)) (field (s .fyk) (c .before .struct-told4 .given .1 .1 .1 .1 .0 .1))
 
 look-up-requires : tie.Need-look-up-requires
 look-up-requires c κs = search needs
@@ -87,8 +87,8 @@ unfolding accepted
 returns-4 c =
     let m = c .before .before .before .before in
     let a = m .before .before .before .before in
-    let b = c .before .before .before .magnitude .ensures ∙ ap natAbs (field (s a .width) (c .before .before .before .before .struct-told5 .given .0 .1)) in
-    let t = c .before .magnitude2 .ensures ∙ ap natAbs (field (s a .height) (c .before .before .struct-told6 .given .1 .0 .1)) in
+    let b = c .before .before .before .magnitude .ensures ∙ ap natAbs (field (s a .width) (c .before .before .before .before .struct-told5 .given .1 .0 .1)) in
+    let t = c .before .magnitude2 .ensures ∙ ap natAbs (field (s a .height) (c .before .before .struct-told6 .given .1 .1 .0 .1)) in
     simp (width-ok a, height-ok a, sym (materials-are a) ∙ m .before .before .m .given .1, c .layers-tested .ensures, b, t)
 
 pub accept-spec : {M : Type 1} → statement M

@@ -1,7 +1,5 @@
 -- `equilibrium::tests::layer_at` meets its contract: the 16 places hold the counted ones. Assumes nothing.
-use mathlib.Core.Path.{_≡_}
-use lib.ListN.{length, length-map}
-use native.Mathlib.Omega.{arith}
+use lib.ListN.{length-map}
 use borrow.Author.Needs.{needs}
 use Rattle.equilibrium.proofs.Walk.{next}
 use Rattle.equilibrium.proofs.tests.layer_at.Statement.{statement}
@@ -16,8 +14,7 @@ element-copy-out-result c = search needs
 returns : tie.Need-returns
 returns c =
     let a = c .before .args in
-    let places : length (a .t1 .layers) ≡ 16 = simp length-map at (c .before .good .0 .1 .1 .1 .1 .1 .1 .1 .0 .1 .0 .1) in
-    next (a .t1 .layers) (a .t1 .count) (a .i) (record { depth = 0; area = 0 }) (omega arith) (c .before .pre .0)
+    next (a .t1) (a .i) (simp length-map at (c .before .good .0 .1 .1 .0 .1 .0 .1)) (c .before .pre .1) (c .before .pre .0)
 
 pub layer-at-spec : {M : Type 1} → statement M
 layer-at-spec = tie.close (tie.spec mul-result element-copy-out-result returns)

@@ -4,25 +4,28 @@ use mathlib.Core.Bool.{_&&_}
 use mathlib.Core.List.{[]}
 use mathlib.Core.Path.{_≡_, ap, _∙_}
 use native.Mathlib.Omega.{arith}
-use lib.ListN.{drop}
+use lib.ListN.{drop, length-map}
 use borrow.Author.Needs.{needs}
 use Rattle.equilibrium.specs.Section.{layersOf, all, depthOk, areaOk}
-use Rattle.equilibrium.proofs.Walk.{over, all-step, all-done}
+use Rattle.equilibrium.proofs.Walk.{next, over, all-step, all-done}
 use Rattle.equilibrium.proofs.tests.layer_tests.Statement.{statement}
 use Rattle.equilibrium.proofs.tests.layer_tests.Tie as tie
 
 abbrev Inv-loop : tie.InvT-loop
-Inv-loop s h depths₀ areas₀ i₀ depths areas i =
+Inv-loop h s depths₀ areas₀ i₀ depths areas i =
     (i ≤ s .count) × ((depths && all (depthOk h) (drop i (layersOf s)) ≡ all (depthOk h) (layersOf s)) × (areas && all areaOk (drop i (layersOf s)) ≡ all areaOk (layersOf s)))
 
 abbrev μ-loop : tie.MeasureT-loop
-μ-loop s h depths₀ areas₀ i₀ depths areas i = s .count - i
+μ-loop h s depths₀ areas₀ i₀ depths areas i = s .count - i
 
 loop-holds : tie.Need-loop-holds Inv-loop μ-loop
 loop-holds c = search needs
 
-layer-at-requires : tie.Need-layer-at-requires Inv-loop μ-loop
-layer-at-requires c κs = search needs
+mul-l : tie.Need-mul-l Inv-loop μ-loop
+mul-l c = search needs
+
+element-copy-out-l : tie.Need-element-copy-out-l Inv-loop μ-loop
+element-copy-out-l c = search needs
 
 depth-ok-requires : tie.Need-depth-ok-requires Inv-loop μ-loop
 depth-ok-requires c κs = search needs
@@ -44,18 +47,18 @@ loop-less c = search needs
 
 loop-again : tie.Need-loop-again Inv-loop μ-loop
 loop-again c =
-    let at = c .before .before .before .before .before .before .before in
-    let s = at .before .args .s in
+    let at = c .before .before .before .before .before .before in
+    let s = at .before .args .t1 in
     let h = at .before .args .h in
-    let nx = c .before .before .before .before .layer-at .ensures in
+    let nx = next s (at .loop .i) (simp length-map at (at .before .good .0 .1 .1 .0 .1 .0 .1)) (at .before .pre) (c .before .before .before .before .before .loop-test .taken) in
     let d = c .before .before .both .ensures ∙ ap (λ t. at .loop .depths && t) (c .before .before .before .depth-ok .ensures) in
     let a = c .both2 .ensures ∙ ap (λ t. at .loop .areas && t) (c .before .area-ok .ensures) in
     (omega arith, (all-step (depthOk h) (at .loop .depths) (layersOf s) nx d (at .loop .inv .1 .0), all-step areaOk (at .loop .areas) (layersOf s) nx a (at .loop .inv .1 .1)))
 
 returns : tie.Need-returns Inv-loop μ-loop
 returns c =
-    let at = c .before .before in
-    let s = at .before .args .s in
+    let at = c .before in
+    let s = at .before .args .t1 in
     let e : at .loop .i ≡ s .count = omega arith in
     let none : drop (at .loop .i) (layersOf s) ≡ [] = rw e (over (s .count) (s .layers)) in
     (all-done (depthOk (at .before .args .h)) (at .loop .depths) (layersOf s) none (at .loop .inv .1 .0), all-done areaOk (at .loop .areas) (layersOf s) none (at .loop .inv .1 .1))
@@ -67,7 +70,8 @@ layer-tests-spec =
     Inv-loop
     μ-loop
     loop-holds
-    layer-at-requires
+    mul-l
+    element-copy-out-l
     depth-ok-requires
     both-requires
     area-ok-requires

@@ -9,22 +9,22 @@ use Rattle.record.proofs.writer.number_at.Tie as tie
 returns : tie.Need-returns
 returns c =
     let a = c .before .before .args in
-    arm (counted (a .s)) (a .l) 0 (a .s .width) (c .before .match .keys1) (c .struct-told .given .0 .1) refl
+    arm (counted (a .s)) (a .l) 0 (a .s .width) (c .before .match .keys1) (c .struct-told .given .1 .0 .1) refl
 
 returns-2 : tie.Need-returns-2
 returns-2 c =
     let a = c .before .before .args in
-    arm (counted (a .s)) (a .l) 1 (a .s .height) (c .before .match .keys2) (c .struct-told2 .given .1 .0 .1) refl
+    arm (counted (a .s)) (a .l) 1 (a .s .height) (c .before .match .keys2) (c .struct-told2 .given .1 .1 .0 .1) refl
 
 returns-3 : tie.Need-returns-3
 returns-3 c =
     let a = c .before .before .args in
-    arm (counted (a .s)) (a .l) 2 (a .s .fck) (c .before .match .keys3) (c .struct-told3 .given .1 .1 .0 .1) refl
+    arm (counted (a .s)) (a .l) 2 (a .s .fck) (c .before .match .keys3) (c .struct-told3 .given .1 .1 .1 .0 .1) refl
 
 returns-4 : tie.Need-returns-4
 returns-4 c =
     let a = c .before .before .args in
-    arm (counted (a .s)) (a .l) 3 (a .s .fyk) (c .before .match .keys4) (c .struct-told4 .given .1 .1 .1 .0 .1) refl
+    arm (counted (a .s)) (a .l) 3 (a .s .fyk) (c .before .match .keys4) (c .struct-told4 .given .1 .1 .1 .1 .0 .1) refl
 
 returns-5 : tie.Need-returns-5
 returns-5 c =
