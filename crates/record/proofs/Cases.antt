@@ -35,7 +35,13 @@ module _ (xs : List ℕ) (m : ℕ) where
       → known m 32 ≡ a → leb (recordLength m) (length xs) ≡ b → complete m ≡ c → refusalOf (counted (sectionOf xs m)) (loadOf xs m) ≡ r
       → unless a (refused 21 0) (unless b (refused 22 0) (unless c (refused 23 (recordLength m)) (answered (recordLength m) (sectionOf xs m) (loadOf xs m) r))) ≡ readBy xs m
   unfolding readBy
-  chosen a b c r ea eb ec er = rw (← ea, ← eb, ← ec, ← er)
+  chosen a b c r ea eb ec er =
+      sym
+      (λ i.
+      unless (ea i) (refused 21 0)
+      (unless (eb i) (refused 22 0)
+      (unless (ec i) (refused 23 (recordLength m))
+      (answered (recordLength m) (sectionOf xs m) (loadOf xs m) (er i)))))
 
   -- what the tests of the section and the load answer
   pub tested : {s : Section} {l : Load} {r : ℕ} → s ≡ sectionOf xs m → l ≡ loadOf xs m → r ≡ refusalOf (counted s) l

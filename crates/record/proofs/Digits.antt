@@ -1,13 +1,12 @@
 -- Big-endian bytes and two's complement. Assumes nothing.
-use mathlib.Core.Path.{_≡_, refl, sym, ap, ap₂, _∙_, subst}
-use mathlib.Core.Bool.{cond}
+use mathlib.Core.Path.{_≡_, refl, sym, ap, ap₂, _∙_}
 use mathlib.Core.List.{List, [], _∷_, _++_, append-assoc, append-nil}
 use Prim.Native.Nat.{ℕ, zero, suc, _+_, _-_, _*_, _/_, _%_, _^_, _≤_, _<_, zero-le}
 use native.Mathlib.Nat.{lt-of-lt-of-le, le-of-suc-le-suc, pow-suc, pow-le-pow-right, add-zero, add-suc, mul-assoc, mod-one}
 use native.Mathlib.Numerals.{add-one}
 use native.Mathlib.Omega.{arith}
 use borrow.Author.Tests.{lt-ltb, le-ltb}
-use lib.Dec.{lit<, ltb}
+use lib.Dec.{lit<}
 use lib.IntN.{ℤ, pos, negsuc, negℤ, natAbs, _-ℤ_}
 use lib.Signed.{mag, _<ℤ_, _≤ℤ_}
 use mir.Syntax.{w64}

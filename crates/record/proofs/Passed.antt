@@ -1,8 +1,8 @@
 -- What a section and a load that pass the tests 1 to 10 are: all that the record has to carry of them. Assumes nothing.
-use mathlib.Core.Path.{_≡_, refl, subst, sym}
+use mathlib.Core.Path.{_≡_, refl}
 use mathlib.Core.Bool.{Bool, true, false, _&&_}
 use mathlib.Core.List.{List, [], _∷_}
-use mathlib.Core.Logic.{_⊎_, inl, inr}
+use mathlib.Core.Logic.{inl, inr}
 use Prim.Native.Nat.{ℕ, zero, suc, _^_, _≤_, _<_}
 use native.Mathlib.Omega.{arith}
 use borrow.Author.Tests.{leb-true, ltb-true}
@@ -11,7 +11,7 @@ use lib.IntN.{ℤ, pos, negℤ, natAbs}
 use lib.ListN.{getD}
 use lib.Signed.{mag}
 use Rattle.arith.specs.Chain.{unless}
-use Rattle.arith.specs.Integer.{Within, inRange}
+use Rattle.arith.specs.Integer.{inRange}
 use Rattle.arith.proofs.Bound.{fits64}
 use Rattle.arith.proofs.Range.{natural, symmetric}
 use Rattle.arith.proofs.Test.{both-true}
@@ -21,7 +21,7 @@ use Rattle.materials.specs.declared.Answer.the-variants as materials
 use Rattle.materials.specs.declared.Materials.{Materials}
 use Rattle.materials.proofs.Promise.{promise}
 use Rattle.equilibrium.specs.Section.{Counted, all, depthOk, areaOk, layersTested, materialsTested, accepted}
-use Rattle.equilibrium.specs.Load.{forceOk, momentOk, loadRefusal, refusalAfter, refusalOf}
+use Rattle.equilibrium.specs.Load.{forceOk, momentOk, refusalAfter, refusalOf}
 use Rattle.equilibrium.specs.declared.Layer.{Layer}
 use Rattle.equilibrium.specs.declared.Load.{Load}
 use Rattle.equilibrium.specs.declared.Design.{Design}

@@ -2,7 +2,7 @@
 use mathlib.Core.Path.{_≡_, refl, sym, ap, ap₂, _∙_, subst}
 use mathlib.Core.Bool.{Bool, true, false, cond, not, _&&_}
 use mathlib.Core.List.{List, [], _∷_, _++_, append-assoc, append-nil}
-use Prim.Native.Nat.{ℕ, zero, suc, _+_, _-_, _*_, _/_, _%_, _^_, _≤_, _<_}
+use Prim.Native.Nat.{ℕ, zero, suc, _+_, _-_, _/_, _%_, _^_, _≤_, _<_}
 use native.Mathlib.Decide.{le-ind, decLt}
 use native.Mathlib.Nat.{le-refl, le-of-lt, lt-of-lt-of-le, mod-eq-of-lt, div-eq-of-lt}
 use native.Mathlib.Omega.{arith}
@@ -18,10 +18,9 @@ use Rattle.equilibrium.specs.Load.{refusalOf}
 use Rattle.equilibrium.specs.declared.Layer.{Layer}
 use Rattle.equilibrium.specs.declared.Section.{Section}
 use Rattle.equilibrium.specs.declared.Load.{Load}
-use Rattle.record.specs.declared.Reading.{Reading}
 use Rattle.record.specs.Bytes.{numberAt, bytesOf, signed, unsigned}
 use Rattle.record.specs.Map.{stands, offset, recordLength}
-use Rattle.record.specs.Fields.{Number, width, height, fck, fyk, axial, moment, shear, Field, number, layer, none, table, fieldOf, bitOf}
+use Rattle.record.specs.Fields.{Number, width, height, fck, fyk, axial, moment, shear, Field, number, fieldOf, bitOf}
 use Rattle.record.specs.Read.{numberOf, layerAt, layersTo, noLayer, filled, sectionOf, loadOf, known, complete, answered, readOf}
 use Rattle.record.specs.Write.{valueOf, mayMiss, isZero, fieldBytes, writes, mapOf, fieldsTo, fields, recordOf, orElse, writeRefusal, written, writtenOf, bufferOf, changed}
 use Rattle.record.specs.RoundTrip.{cleared, readBack}

@@ -1,10 +1,10 @@
 -- The table of fields, from which reading and writing are both defined: document 01, "The record". Assumes nothing.
-use Prim.Native.Nat.{ℕ, zero, suc, _+_}
+use Prim.Native.Nat.{ℕ, suc}
 use mathlib.Core.List.{List, [], _∷_}
 use mathlib.Core.Logic.{ite}
 use lib.ListN.{getD}
 
--- the fields that are signed numbers
+-- the fields that are signed numbers: 01's b, h, fck, fyk, N, M and V
 pub data Number : Type 0 where
   width : Number
   height : Number
@@ -21,7 +21,7 @@ pub data Field : Type 0 where
   layer : ℕ → Field
   none : Field
 
--- Bits 0 to 6: b, h, fck, fyk, N, M, V. Bits 8 to 23: layers.
+-- THE TABLE, from bit 0 on. Bits 0 to 6: b, h, fck, fyk, N, M, V. Bits 8 to 23: layers.
 abbrev pub table : List Field
 table =
     number width ∷ number height ∷ number fck ∷ number fyk ∷ number axial ∷ number moment ∷ number shear ∷ none

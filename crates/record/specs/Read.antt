@@ -62,7 +62,7 @@ unfoldable pub loadOf : List ℕ → ℕ → Load
 loadOf xs m = record { n = numberOf xs m axial; m = numberOf xs m moment; v = numberOf xs m shear }
 
 -- a refusal, with the length that it names, and zeros
-abbrev pub refused : ℕ → ℕ → Reading
+unfoldable pub refused : ℕ → ℕ → Reading
 refused k n =
     record {
       refusal = k;

@@ -26,7 +26,7 @@ valueOf c l axial = l .n
 valueOf c l moment = l .m
 valueOf c l shear = l .v
 
--- the eight bytes of a field; there are none to write where there is no field
+-- the eight bytes of a field: a layer's depth and then its area. Where there is no field they are never written.
 abbrev pub layerBytes : Layer → List ℕ
 layerBytes y = bytesOf 4 (y .depth) ++ bytesOf 4 (y .area)
 

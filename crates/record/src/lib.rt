@@ -1,5 +1,5 @@
 // Records: document 01, "The record". A section and its load as bytes, read and written.
-pub mod bytes;
+mod bytes;
 pub mod map;
 pub mod reader;
 pub mod writer;

@@ -17,7 +17,7 @@ ghost use Rattle.record.specs.Map.{recordLength};
 ghost use Rattle.record.specs.Read.{signedOf, layerAt, layersIn, filled, sectionOf, loadOf, refused, readOf};
 
 // The number of bit k, or 0 where the bit does not stand.
-pub fn number(s: &[u8], map: u32, k: u32) -> i64
+fn number(s: &[u8], map: u32, k: u32) -> i64
     requires { ⌜ (k < 32) × (recordLength map ≤ length (now s)) ⌝ }
     ensures { λ r. ⌜ r ≡ signedOf (now (s .entry)) map k ⌝ }
 {
@@ -30,7 +30,7 @@ pub fn number(s: &[u8], map: u32, k: u32) -> i64
 }
 
 // The layer whose eight bytes begin at `at`.
-pub fn layer(s: &[u8], at: usize) -> Layer
+fn layer(s: &[u8], at: usize) -> Layer
     requires { ⌜ at + 8 ≤ length (now s) ⌝ }
     ensures { λ r. ⌜ r ≡ layerAt (now (s .entry)) at ⌝ }
 {
@@ -40,13 +40,13 @@ pub fn layer(s: &[u8], at: usize) -> Layer
 }
 
 // The layers of a record, with zeros beyond them.
-pub struct Layers {
-    pub count: usize,
-    pub places: [Layer; 16],
+struct Layers {
+    count: usize,
+    places: [Layer; 16],
 }
 
 // The layers, by rising bit.
-pub fn all_layers(s: &[u8], map: u32) -> Layers
+fn all_layers(s: &[u8], map: u32) -> Layers
     requires { ⌜ recordLength map ≤ length (now s) ⌝ }
     ensures { λ r. ⌜ (r .count ≡ length (layersIn (now (s .entry)) map)) × (r .places ≡ filled (layersIn (now (s .entry)) map)) ⌝ }
 {
@@ -67,7 +67,7 @@ pub fn all_layers(s: &[u8], map: u32) -> Layers
     }
 }
 
-pub fn section_of(s: &[u8], map: u32) -> Section
+fn section_of(s: &[u8], map: u32) -> Section
     requires { ⌜ recordLength map ≤ length (now s) ⌝ }
     ensures { λ r. ⌜ r ≡ sectionOf (now (s .entry)) map ⌝ }
 {
@@ -83,7 +83,7 @@ pub fn section_of(s: &[u8], map: u32) -> Section
     }
 }
 
-pub fn load_of(s: &[u8], map: u32) -> Load
+fn load_of(s: &[u8], map: u32) -> Load
     requires { ⌜ recordLength map ≤ length (now s) ⌝ }
     ensures { λ r. ⌜ r ≡ loadOf (now (s .entry)) map ⌝ }
 {
@@ -95,7 +95,7 @@ pub fn load_of(s: &[u8], map: u32) -> Load
 }
 
 // A refusal with the length that it names.
-pub fn refuse(number: u8, length: usize) -> Reading
+fn refuse(number: u8, length: usize) -> Reading
     ensures { λ r. ⌜ r ≡ refused number length ⌝ }
 {
     let layers = [Layer { depth: 0, area: 0 }; 16];

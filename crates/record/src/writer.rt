@@ -18,14 +18,14 @@ ghost use Rattle.record.specs.Read.{noLayer};
 ghost use Rattle.record.specs.Write.{isZero, layerBytes, fieldBytes, writes, mapOf, fields, writtenOf, bufferOf};
 
 // The bit of a load: the writer omits a zero.
-pub fn load_bit(z: i64, bit: u32) -> u32
+fn load_bit(z: i64, bit: u32) -> u32
     ensures { λ r. ⌜ r ≡ cond (isZero z) 0 bit ⌝ }
 {
     if z == 0 { 0 } else { bit }
 }
 
 // The map: b, h, fck and fyk, the loads that are not 0, and the lowest layer bits.
-pub fn map_of(s: Section, l: Load) -> u32
+fn map_of(s: Section, l: Load) -> u32
     requires { ⌜ s .count ≤ 16 ⌝ }
     ensures { λ r. ⌜ r ≡ mapOf (counted s) l ⌝ }
 {
@@ -37,7 +37,7 @@ pub fn map_of(s: Section, l: Load) -> u32
 }
 
 // The number of bit k.
-pub fn number_at(s: Section, l: Load, k: u32) -> i64
+fn number_at(s: Section, l: Load, k: u32) -> i64
     requires { ⌜ k < 7 ⌝ }
     ensures { λ r. ⌜ bytesOf 8 (unsigned r) ≡ fieldBytes (counted s) l (fieldOf k) ⌝ }
 {
@@ -53,7 +53,7 @@ pub fn number_at(s: Section, l: Load, k: u32) -> i64
 }
 
 // The eight bytes of a layer as one number: the depth stands before the area.
-pub fn layer_value(s: Section, i: usize) -> u64
+fn layer_value(s: Section, i: usize) -> u64
     requires { ⌜ (i < s .count) × (s .count ≤ 16) ⌝ }
     ensures { λ r. ⌜ bytesOf 8 r ≡ layerBytes (getD (layersOf s) i noLayer) ⌝ }
 {
@@ -62,7 +62,7 @@ pub fn layer_value(s: Section, i: usize) -> u64
 }
 
 // The eight bytes of a bit that is written, as one number.
-pub fn field_value(s: Section, l: Load, k: u32) -> u64
+fn field_value(s: Section, l: Load, k: u32) -> u64
     requires { ⌜ (k < 24) × (s .count ≤ 16) × (writes (counted s) l (fieldOf k) ≡ true) ⌝ }
     ensures { λ r. ⌜ bytesOf 8 r ≡ fieldBytes (counted s) l (fieldOf k) ⌝ }
 {
@@ -75,7 +75,7 @@ pub fn field_value(s: Section, l: Load, k: u32) -> u64
 }
 
 // The fields, lowest bit first, after the four bytes of the map.
-pub fn put_fields(s: Section, l: Load, map: u32, buf: &mut [u8])
+fn put_fields(s: Section, l: Load, map: u32, buf: &mut [u8])
     requires { ⌜ (s .count ≤ 16) × (map ≡ mapOf (counted s) l) × (recordLength map ≤ length (now buf)) ⌝ }
     ensures { λ _. ⌜ now (buf .exit) ≡ placed (now (buf .entry)) 4 (fields (counted s) l) ⌝ }
 {

@@ -1,13 +1,13 @@
 -- `record::bytes::to_signed` meets its contract. Assumes nothing.
-use mathlib.Core.Path.{_≡_, ap, sym, _∙_, subst}
-use Prim.Native.Nat.{ℕ, _-_}
+use mathlib.Core.Path.{_≡_, sym, _∙_}
+use Prim.Native.Nat.{_-_}
 use native.Mathlib.Omega.{arith}
 use borrow.Author.Needs.{needs}
 use borrow.Author.Tests.{lt-ltb}
-use lib.IntN.{ℤ, negsuc, _-ℤ_}
+use lib.IntN.{negsuc, _-ℤ_}
 use mir.Syntax.{w64}
-use mir.Val.{SFits, toZ}
-use mir.Facts.{toZ-pos, toZ-ofZ}
+use mir.Val.{toZ}
+use mir.Facts.{toZ-ofZ}
 use Rattle.record.proofs.Digits.{signed-high, less-one}
 use Rattle.record.proofs.bytes.to_signed.Statement.{statement}
 use Rattle.record.proofs.bytes.to_signed.Tie as tie

@@ -1,8 +1,8 @@
 -- `record::bytes::to_unsigned` meets its contract. Assumes nothing.
-use mathlib.Core.Path.{_≡_, ap, sym, _∙_, subst}
+use mathlib.Core.Path.{_≡_, ap, _∙_}
 use native.Mathlib.Omega.{arith}
 use borrow.Author.Needs.{needs}
-use lib.IntN.{ℤ, natAbs}
+use lib.IntN.{natAbs}
 use mir.Facts.{toZ-ofZ}
 use Rattle.arith.proofs.Machine.{result}
 use Rattle.arith.proofs.Test.{lt-true, lt-false}

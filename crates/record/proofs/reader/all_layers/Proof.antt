@@ -1,6 +1,5 @@
 -- `record::reader::all_layers` meets its contract: the layers of the bits below k stand in the first places. Assumes nothing.
 use mathlib.Core.Path.{_≡_, refl, sym, ap, _∙_}
-use mathlib.Core.Bool.{true, false}
 use mathlib.Core.List.{List, [], _∷_, _++_}
 use mathlib.Core.Logic.{⊎-elim}
 use Prim.Native.Nat.{ℕ, _+_, _-_, _≤_, _<_}
@@ -8,7 +7,7 @@ use native.Mathlib.Omega.{arith}
 use lib.ListN.{length, set, length-append}
 use denote.Ref.{now}
 use Rattle.equilibrium.specs.declared.Layer.{Layer}
-use Rattle.record.specs.Map.{stands, offset}
+use Rattle.record.specs.Map.{offset}
 use Rattle.record.specs.Read.{layersTo, filled, layerAt}
 use Rattle.record.proofs.Bits.{room}
 use Rattle.record.proofs.Places.{layer-bit, layers-yes, layers-no, filled-more}

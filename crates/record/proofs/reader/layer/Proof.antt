@@ -19,7 +19,7 @@ cast-a : tie.Need-cast-a
 cast-a c = search needs
 
 returns : tie.Need-returns
-returns c = let d = c .before .big-endian .ensures .0 in let a = c .big-endian2 .ensures .0 in cc
+returns c = λ i. record { depth = c .before .big-endian .ensures .0 i; area = c .big-endian2 .ensures .0 i }
 
 pub layer-spec : {M : Type 1} → statement M
 layer-spec =

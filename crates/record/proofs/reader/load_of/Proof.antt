@@ -23,7 +23,7 @@ returns c =
     let e0 = result (n .ok) (n .ensures) in
     let e1 = result (m .ok) (m .ensures) in
     let e2 = result (v .ok) (v .ensures) in
-    cc
+    λ i. record { n = e0 i; m = e1 i; v = e2 i }
 
 pub load-of-spec : {M : Type 1} → statement M
 load-of-spec =

@@ -1,15 +1,10 @@
 -- `record::reader::number` meets its contract. Assumes nothing.
-use mathlib.Core.Path.{_≡_, sym, ap, _∙_}
-use mathlib.Core.Bool.{Bool, true, false, cond}
-use Prim.Native.Nat.{ℕ}
+use mathlib.Core.Path.{sym, _∙_}
 use native.Mathlib.Nat.{le-refl}
 use native.Mathlib.Omega.{arith}
-use lib.IntN.{pos}
 use lib.ListN.{length}
 use denote.Ref.{now}
 use Rattle.arith.proofs.Machine.{result}
-use Rattle.record.specs.Bytes.{numberAt, signed}
-use Rattle.record.specs.Map.{stands, offset}
 use Rattle.record.proofs.Bits.{room}
 use borrow.Author.Needs.{needs}
 use Rattle.record.proofs.reader.number.Statement.{statement}

@@ -1,6 +1,6 @@
 -- `record::reader::read` meets its contract: at each `return` the answers of the tests say which case of `readOf` holds. Assumes nothing.
-use mathlib.Core.Path.{_≡_, refl, sym, ap, ap₂, _∙_}
-use mathlib.Core.Bool.{Bool, true, false}
+use mathlib.Core.Path.{_≡_, refl, sym, ap, _∙_}
+use mathlib.Core.Bool.{true, false}
 use mathlib.Core.List.{List}
 use Prim.Native.Nat.{ℕ}
 use native.Mathlib.Omega.{arith}
@@ -10,10 +10,6 @@ use lib.Dec.{leb}
 use lib.ListN.{length}
 use denote.Ref.{now}
 use Rattle.arith.proofs.Test.{failed, passed}
-use Rattle.equilibrium.specs.Section.{counted}
-use Rattle.equilibrium.specs.Load.{refusalOf}
-use Rattle.equilibrium.specs.declared.Section.{Section}
-use Rattle.equilibrium.specs.declared.Load.{Load}
 use Rattle.record.specs.Map.{recordLength}
 use Rattle.record.specs.Read.{known, complete, readBy, readOf, sectionOf, loadOf, refused, answered}
 use Rattle.record.proofs.Cases.{too-short, start, chosen, tested, refusal-answered}

@@ -34,7 +34,7 @@ returns c =
     let e3 = result (fyk .ok) (fyk .ensures) in
     let e4 = ls .ensures .0 in
     let e5 = ls .ensures .1 in
-    cc
+    λ i. record { width = e0 i; height = e1 i; fck = e2 i; fyk = e3 i; count = e4 i; layers = e5 i }
 
 pub section-of-spec : {M : Type 1} → statement M
 section-of-spec =

@@ -1,17 +1,17 @@
 -- `record::writer::put_fields` meets its contract: the fields of the bits below k stand after the map, and nothing else has changed. Assumes nothing.
 use mathlib.Core.Path.{_≡_, refl, sym, ap, ap₂, _∙_}
 use mathlib.Core.Bool.{true}
-use mathlib.Core.List.{List, []}
+use mathlib.Core.List.{List}
 use mathlib.Core.Logic.{⊎-elim}
-use Prim.Native.Nat.{ℕ, _+_, _-_, _*_, _≤_, _<_}
+use Prim.Native.Nat.{ℕ, _+_, _-_, _≤_, _<_}
 use native.Mathlib.Omega.{arith}
 use lib.ListN.{length}
 use denote.Ref.{now}
 use Rattle.equilibrium.specs.Section.{counted}
-use Rattle.record.specs.Bytes.{bytesOf, placed}
+use Rattle.record.specs.Bytes.{placed}
 use Rattle.record.specs.Map.{stands, standing, offset}
 use Rattle.record.specs.Fields.{fieldOf}
-use Rattle.record.specs.Write.{fieldBytes, writes, mapOf, fieldsTo, fields}
+use Rattle.record.specs.Write.{fieldBytes, writes, fieldsTo, fields}
 use Rattle.record.proofs.Bits.{room, offset-yes, offset-no}
 use Rattle.record.proofs.Lent.{placed-none, placed-more}
 use Rattle.record.proofs.Writing.{stands-written, length-field, fields-yes, fields-no, length-fields}

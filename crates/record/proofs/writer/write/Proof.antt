@@ -1,13 +1,13 @@
 -- `record::writer::write` meets its contract. Assumes nothing.
-use mathlib.Core.Path.{_≡_, refl, sym, ap, _∙_}
+use mathlib.Core.Path.{_≡_, sym, ap, _∙_}
 use mathlib.Core.List.{List}
-use Prim.Native.Nat.{ℕ, _+_, _*_, _≤_, _<_}
+use Prim.Native.Nat.{ℕ, _≤_, _<_}
 use native.Mathlib.Omega.{arith}
 use lib.ListN.{length}
 use denote.Ref.{now}
 use Rattle.equilibrium.specs.Section.{counted}
 use Rattle.equilibrium.specs.Load.{refusalOf}
-use Rattle.record.specs.Bytes.{bytesOf, placed}
+use Rattle.record.specs.Bytes.{placed}
 use Rattle.record.specs.Map.{recordLength}
 use Rattle.record.specs.Write.{mapOf, fields}
 use Rattle.record.proofs.Cases.{by-tests, by-length, none, write-refused, write-done}
