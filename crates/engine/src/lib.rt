@@ -6,11 +6,16 @@ use equilibrium::Depth;
 use equilibrium::Load;
 use equilibrium::Moment;
 use equilibrium::Section;
+use record::Reading;
+use record::Written;
 ghost use mathlib.Core.Path.{_≡_};
 ghost use Rattle.equilibrium.specs.Depth.{findDepth};
 ghost use Rattle.equilibrium.specs.Moment.{momentAt};
 ghost use Rattle.clauses.specs.Check.{checkOf, listed, refused};
 ghost use Rattle.clauses.specs.Verdicts.{numberOf};
+ghost use Rattle.equilibrium.specs.Section.{counted};
+ghost use Rattle.record.specs.Read.{readOf};
+ghost use Rattle.record.specs.Write.{writtenOf, bufferOf};
 ghost use Rattle.engine.specs.Answers.{depthAnswer, momentAnswer, checkAnswer};
 
 // The refusal, 0 for none, and the depth in tenths of a millimetre.
@@ -135,4 +140,19 @@ pub extern "C" fn salwoerk_check(s: Section, l: Load) -> CheckAnswer
         Checked::Refused(k) => refused_check(k),
         Checked::Done(r) => done_check(r),
     }
+}
+
+#[no_mangle]
+pub extern "C" fn salwoerk_read(bytes: &[u8]) -> Reading
+    ensures { λ r. ⌜ r ≡ readOf (now (bytes .entry)) ⌝ }
+{
+    record::reader::read(bytes)
+}
+
+#[no_mangle]
+pub extern "C" fn salwoerk_write(s: Section, l: Load, buffer: &mut [u8]) -> Written
+    ensures { λ r. ⌜ r ≡ writtenOf (counted s) l (now (buffer .entry)) ⌝ }
+    ensures lent { λ _. ⌜ now (buffer .exit) ≡ bufferOf (counted s) l (now (buffer .entry)) ⌝ }
+{
+    record::writer::write(s, l, buffer)
 }

@@ -6,9 +6,9 @@ use mathlib.Core.Path.{_≡_, refl}
 use native.Mathlib.Nat.{mul-pos, le-of-mul-le-mul-right}
 use native.Mathlib.Omega.{arith}
 use lib.IntN.{ℤ}
-use Rattle.arith.specs.Fraction.{Ratio, by, integer, atMost, _≤ᶠ_, _<ᶠ_, _≤ʳ_, _<ʳ_}
+use Rattle.arith.specs.Fraction.{Proper, Ratio, by, integer, atMost, _≤ᶠ_, _<ᶠ_, _≤ʳ_, _<ʳ_}
 use Rattle.arith.specs.Greatest.{greatest}
-use Rattle.arith.proofs.Fraction.{Positive, by-positive, integer-proper, Tested, Tested.below, Tested.above, tested, passes, holds-true, ≤ᶠ-trans, <ᶠ-≤ᶠ-trans}
+use Rattle.arith.proofs.Fraction.{Positive, proper, by-positive, integer-proper, Tested, Tested.below, Tested.above, tested, passes, holds-true, ≤ᶠ-trans, <ᶠ-≤ᶠ-trans}
 use Rattle.arith.proofs.Greatest.{NeverBack, greatest-le, le-greatest, greatest-passes}
 use Rattle.equilibrium.specs.declared.Layer.{Layer}
 use Rattle.equilibrium.specs.declared.Design.{Design}
@@ -74,10 +74,17 @@ module _ (x : Design) (ls : List Layer) (N : ℤ) (ok : Bounded x) (one : carrie
       let py = positive r in
       <ᶠ-≤ᶠ-trans (force-proper x py ls) (next (in-range r (u + 1) le) (tested _ _)) (force-mono x (by-positive (u + 1) (omega arith)) py ls le)
 
+  allowance-proper : (y : Ratio) → Range (x .h) y → Proper (allowance x ls u y)
+  unfolding growth allowance
+  allowance-proper y r =
+      let there = force-proper x (positive r) ls in
+      let here = force-proper x (by-positive u depth-low) ls in
+      search proper
+
   pub accuracy : DepthsWithin (x .h) ls → Accurate x ls N u (momentResistance x ls u)
   unfolding growth allowance
   accuracy within = record {
-    defined = λ y r. (force-proper x (positive r) ls, moment-proper x (positive r) ls);
+    defined = λ y r. (force-proper x (positive r) ls, (moment-proper x (positive r) ls, allowance-proper y r));
     below = below-depth;
     here = here;
     above = above-depth;

@@ -21,7 +21,7 @@ pub record Range (h : ℕ) (y : Ratio) : Type 0 where
   pub low : at 1 ≤ʳ y
   pub high : y ≤ʳ at (10 * h)
 
-module _ (x : Design) (ls : List Layer) (N : ℤ) (u : ℕ) where
+module _ (x : Design) (ls : List Layer) (u : ℕ) where
   -- 01's "growth": the internal force at the depth compared less that at u
   unfoldable pub growth : Ratio → Fraction
   growth y = internalForce x ls y -ᶠ internalForce x ls (at u)
@@ -30,18 +30,18 @@ module _ (x : Design) (ls : List Layer) (N : ℤ) (u : ℕ) where
   unfoldable pub allowance : Ratio → Fraction
   allowance y = whole (x .h) /ᶠ by 2 *ᶠ growth y +ᶠ whole (1 + length ls)
 
-  -- `reported` is the moment reported
-  pub record Accurate (reported : ℤ) : Type 0 where
-    -- the fractions compared have a denominator above 0
-    pub defined : (y : Ratio) → Range (x .h) y → Proper (internalForce x ls y) × Proper (unroundedMoment x ls y)
-    -- the internal force is below N where the depth is less than u,
-    pub below : (y : Ratio) → Range (x .h) y → y <ʳ at u → internalForce x ls y <ᶠ integer N
-    -- at most N at u,
-    pub here : internalForce x ls (at u) ≤ᶠ integer N
-    -- above N from u + 1 on;
-    pub above : (y : Ratio) → Range (x .h) y → at (u + 1) ≤ʳ y → integer N <ᶠ internalForce x ls y
-    -- and from u to u + 1 the unrounded moment differs from the reported one by no more than the allowance
-    pub near : (y : Ratio) → Range (x .h) y → at u ≤ʳ y → y ≤ʳ at (u + 1) → DifferAtMost (allowance y) (unroundedMoment x ls y) (integer reported)
+-- of a section under N, with the depth u and the moment that is reported
+pub record Accurate (x : Design) (ls : List Layer) (N : ℤ) (u : ℕ) (reported : ℤ) : Type 0 where
+  -- the fractions compared have a denominator above 0
+  pub defined : (y : Ratio) → Range (x .h) y → Proper (internalForce x ls y) × (Proper (unroundedMoment x ls y) × Proper (allowance x ls u y))
+  -- the internal force is below N where the depth is less than u,
+  pub below : (y : Ratio) → Range (x .h) y → y <ʳ at u → internalForce x ls y <ᶠ integer N
+  -- at most N at u,
+  pub here : internalForce x ls (at u) ≤ᶠ integer N
+  -- above N from u + 1 on;
+  pub above : (y : Ratio) → Range (x .h) y → at (u + 1) ≤ʳ y → integer N <ᶠ internalForce x ls y
+  -- and from u to u + 1 the unrounded moment differs from the reported one by no more than the allowance
+  pub near : (y : Ratio) → Range (x .h) y → at u ≤ʳ y → y ≤ʳ at (u + 1) → DifferAtMost (allowance x ls u y) (unroundedMoment x ls y) (integer reported)
 
 -- Of Find a depth: a depth that is answered is accurate, with the moment that Moment at a depth answers for the same section
 -- and u; and only an accepted section has one.

@@ -1,0 +1,281 @@
+"""Compares the engine's shared object with second.py, call by call.
+
+The two tables below, and the class Engine that fills and reads the structs,
+are all that is assumed of the library: where the C header says otherwise,
+change them here. Every struct goes by value. A call whose row is taken out of
+table 2 is left out; a row that the library does not have is a failure.
+"""
+
+import ctypes
+from ctypes import POINTER, c_int64, c_size_t, c_uint8, c_uint32, c_uint64
+
+import second
+from samples import SIXTEEN, Sample, UNDER_LOAD, all_samples, record, with_layer
+from second import Layer, Load, Section
+from tally import check_accuracy
+
+# --- table 1: structs -------------------------------------------------------
+
+STRUCTS = {
+    "Layer": [("depth", c_uint32), ("area", c_uint32)],
+    "Section": [("layers", "Layer", 16), ("width", c_int64), ("height", c_int64),
+                ("fck", c_int64), ("fyk", c_int64), ("count", c_size_t)],
+    "Load": [("n", c_int64), ("m", c_int64), ("v", c_int64)],
+    "Depth": [("refusal", c_uint64), ("u", c_uint64)],
+    "Moment": [("refusal", c_uint64), ("moment", c_int64)],
+    "Report": [("refusal", c_uint64), ("u", c_uint64), ("mrd", c_int64), ("vrd", c_uint64),
+               ("dm", c_uint64), ("area", c_uint64), ("verdicts", c_uint8, 5)],
+    "Reading": [("refusal", c_uint8), ("length", c_size_t), ("section", "Section"),
+                ("load", "Load")],
+    "Written": [("refusal", c_uint8), ("length", c_size_t)],
+}
+
+# --- table 2: calls (name in the library, arguments, answer) ----------------
+
+BYTES = POINTER(c_uint8)
+CALLS = {
+    "find_depth": ("salwoerk_find_depth", ("Section", c_int64), "Depth"),
+    "moment": ("salwoerk_moment_at", ("Section", c_uint64), "Moment"),
+    "check": ("salwoerk_check", ("Section", "Load"), "Report"),
+    "read": ("salwoerk_read", (BYTES, c_size_t), "Reading"),
+    "write": ("salwoerk_write", ("Section", "Load", BYTES, c_size_t), "Written"),
+    # input and its length, room for the text and its length; answers the text's length
+    "list": ("salwoerk_list", (BYTES, c_size_t, BYTES, c_size_t), c_size_t),
+}
+
+GUARD = 16  # bytes on either side of a lent buffer, which must not change
+
+
+def structures():
+    """The struct classes of table 1."""
+    made = {}
+
+    def ctype(kind, length=None):
+        """A plain type or a struct made before, or an array of them."""
+        plain = made[kind] if isinstance(kind, str) else kind
+        return plain if length is None else plain * length
+
+    for name, fields in STRUCTS.items():
+        typed = [(field, ctype(*kind)) for field, *kind in fields]
+        made[name] = type(name, (ctypes.Structure,), {"_fields_": typed})
+    return made
+
+
+def lent(data):
+    """Bytes that the library may read; an empty input has an address too."""
+    return (c_uint8 * max(len(data), 1)).from_buffer_copy(data or bytes(1))
+
+
+class Engine:
+    """The library's calls, answering in the terms of second.py."""
+
+    def __init__(self, path):
+        self.structs = structures()
+        loaded = ctypes.CDLL(path)
+        self.calls = {name: self.declared(loaded, *row) for name, row in CALLS.items()
+                      if hasattr(loaded, row[0])}
+
+    def ctype(self, kind):
+        """A struct of table 1 by its name, or a plain type."""
+        return self.structs[kind] if isinstance(kind, str) else kind
+
+    def declared(self, loaded, symbol, argument_kinds, answer_kind):
+        """A function of the library with its types."""
+        function = getattr(loaded, symbol)
+        function.argtypes = [self.ctype(kind) for kind in argument_kinds]
+        function.restype = self.ctype(answer_kind)
+        return function
+
+    def section(self, section):
+        """A section as the library takes it, places beyond the count too."""
+        places = list(section.layers) + [Layer(0, 0)] * (second.PLACES - len(section.layers))
+        layers = (self.structs["Layer"] * second.PLACES)(*places)
+        return self.structs["Section"](layers, *section[:5])
+
+    def find_depth(self, section, n):
+        """Refusal and u."""
+        answer = self.calls["find_depth"](self.section(section), n)
+        return answer.refusal, answer.u
+
+    def moment(self, section, u):
+        """Refusal and moment resistance."""
+        answer = self.calls["moment"](self.section(section), u)
+        return answer.refusal, answer.moment
+
+    def check(self, section, load):
+        """The report, verdicts as numbers."""
+        answer = self.calls["check"](self.section(section), self.structs["Load"](*load))
+        return second.Report(answer.refusal, answer.u, answer.mrd, answer.vrd, answer.dm,
+                             answer.area, tuple(answer.verdicts))
+
+    def read(self, data):
+        """The reading, with every place of the section's layers."""
+        answer = self.calls["read"](lent(data), len(data))
+        given = answer.section
+        layers = tuple(Layer(layer.depth, layer.area) for layer in given.layers)
+        section = Section(given.width, given.height, given.fck, given.fyk, given.count, layers)
+        return second.Reading(answer.refusal, answer.length, section,
+                              Load(answer.load.n, answer.load.m, answer.load.v))
+
+    def write(self, section, load, surroundings):
+        """Refusal and length, and all bytes with the guards beside the buffer."""
+        room = len(surroundings) - 2 * GUARD
+        memory = (c_uint8 * len(surroundings)).from_buffer_copy(surroundings)
+        buffer = ctypes.cast(ctypes.byref(memory, GUARD), BYTES)
+        answer = self.calls["write"](self.section(section), self.structs["Load"](*load),
+                                     buffer, room)
+        return (answer.refusal, answer.length), bytes(memory)
+
+    def list(self, data, room):
+        """The text that the library puts into a buffer of that room."""
+        text = (c_uint8 * room)()
+        return bytes(text[:self.calls["list"](lent(data), len(data), text, room)])
+
+
+# --- samples that only the library can meet ---------------------------------
+
+
+def beyond_count(rng, section):
+    """'Places beyond the counted layers are never read': fill them with any bytes."""
+    places = second.counted(section)
+    rest = [Layer(rng.getrandbits(32), rng.getrandbits(32))
+            for _ in range(second.PLACES - len(places))]
+    return section._replace(layers=tuple(places) + tuple(rest))
+
+
+def count_samples():
+    """Test 5 for counts that no record carries, alone and before 6 and 7."""
+    for count in (0, 17, 18, 2**32 + 1, 2**63, 2**64 - 1):
+        for section in (SIXTEEN, with_layer(SIXTEEN, 2, depth=0), with_layer(SIXTEEN, 2, area=0)):
+            yield Sample(f"count {count}", section._replace(count=count), UNDER_LOAD, 5)
+
+
+def depths_for_moment(rng, section):
+    """u at and beyond both ends of its range, and inside it."""
+    last = max(10 * section.height, 10) if 0 < section.height < 10**6 else 5_000
+    return 0, 1, last, last + 1, rng.randint(1, last), 2**63, 2**64 - 1
+
+
+# --- the comparison ---------------------------------------------------------
+
+
+def hexadecimal(section, load):
+    """Section and load as they were handed over, in hexadecimal."""
+    numbers = (*section[:5], *(value for layer in section.layers for value in layer), *load)
+    return " ".join(f"{value:x}" for value in numbers)
+
+
+def compare_depth(tally, rng, engine, sample):
+    """Find a depth, and demand 3 with what Moment at a depth answers for it."""
+    section, load = sample.section, sample.load
+    answer = engine.find_depth(section, load.n)
+    tally.compare(f"Find a depth, {sample.label}", hexadecimal(section, load),
+                  second.find_depth(section, load.n), answer)
+    refusal, u = answer
+    if refusal == 0 and 1 <= u <= second.greatest_depth(section):
+        _, moment = engine.moment(section, u)
+        check_accuracy(tally, rng, section, load._replace(m=0), u, moment)
+
+
+def compare_moment(tally, rng, engine, sample):
+    """Moment at a depth, refusal 13 included."""
+    for u in depths_for_moment(rng, sample.section):
+        expected = second.moment_at_depth(sample.section, u)
+        tally.coverage.refusals[expected[0]] += expected[0] == 13
+        tally.compare(f"Moment at depth {u}, {sample.label}",
+                      hexadecimal(sample.section, sample.load),
+                      expected, engine.moment(sample.section, u))
+
+
+def compare_check(tally, rng, engine, sample):
+    """Check, and demand 3 with its own MRd."""
+    section, load = sample.section, sample.load
+    answer = engine.check(section, load)
+    tally.compare(f"Check, {sample.label}", hexadecimal(section, load),
+                  second.check(section, load), answer)
+    if answer.refusal == 0 and 1 <= answer.u <= second.greatest_depth(section):
+        check_accuracy(tally, rng, section, load, answer.u, answer.mrd)
+
+
+def compare_write(tally, rng, engine, sample):
+    """Write a record into rooms around its length: every byte, guards too."""
+    section, load = sample.section, sample.load
+    length = second.write_record(section, load, bytearray(200))[1] or 60
+    for room in (0, length - 1, length, length + 1, length + 50):
+        memory = bytearray(rng.randbytes(room + 2 * GUARD))
+        answer = engine.write(section, load, bytes(memory))
+        buffer = memory[GUARD:GUARD + room]
+        expected = second.write_record(section, load, buffer)
+        memory[GUARD:GUARD + room] = buffer
+        tally.coverage.refusals[25] += expected[0] == 25
+        tally.compare(f"Write a record, room {room}, {sample.label}",
+                      hexadecimal(section, load), (expected, bytes(memory)), answer)
+
+
+def compare_read(tally, engine, label, data):
+    """Read a record from bytes, whatever they are."""
+    tally.compare(f"Read a record, {label}", data.hex(),
+                  second.read_record(data), engine.read(data))
+
+
+def compare_read_back(tally, rng, engine, sample):
+    """The sample's record and bytes after it, read again: the same section and load.
+
+    A sample out of range has its refusal; a count above 16 has no record.
+    """
+    section, load = sample.section, sample.load
+    if section.count > second.PLACES:
+        return
+    written = record(section, load)
+    data = written + rng.randbytes(rng.randint(0, 9))
+    expected = second.read_record(data)
+    if expected.refusal == 0:
+        kept = second.section_of(*section[:4], second.counted(section))
+        expected = second.Reading(0, len(written), kept, load)
+    tally.compare(f"Read back, {sample.label}", data.hex(), expected, engine.read(data))
+
+
+def compare_list(tally, engine, run):
+    """The list's text; 01 gives a line at most 100 bytes."""
+    room = 100 * (len(run.data) // 4 + 3)
+    tally.compare(f"List, {run.label}", run.data[:400].hex(),
+                  second.list_text(run.data).encode(), engine.list(run.data, room))
+
+
+SAMPLE_COMPARISONS = (
+    (("find_depth", "moment"), compare_depth),
+    (("moment",), compare_moment),
+    (("check",), compare_check),
+    (("write",), compare_write),
+    (("read",), compare_read_back),
+)
+
+
+def compare_samples(tally, rng, engine, samples):
+    """Every call that takes a section, with any bytes beyond its layers."""
+    for sample in samples:
+        sample = sample._replace(section=beyond_count(rng, sample.section))
+        for needed, comparison in SAMPLE_COMPARISONS:
+            if engine.calls.keys() >= set(needed):
+                comparison(tally, rng, engine, sample)
+
+
+def compare_runs(tally, engine, runs):
+    """Read each record of inputs that are damaged or whole, and list them."""
+    for run in runs:
+        if "read" in engine.calls:
+            for data in dict.fromkeys(data for _, data, _ in second.list_answers(run.data)):
+                compare_read(tally, engine, run.label, data)
+        if "list" in engine.calls and len(run.data) <= second.INPUT_ROOM:
+            compare_list(tally, engine, run)
+
+
+def compare_library(tally, rng, path, samples, runs):
+    """The whole comparison of the library."""
+    engine = Engine(path)
+    for name, row in CALLS.items():
+        tally.require(f"the library has no {row[0]}", name in engine.calls)
+    compare_samples(tally, rng, engine, all_samples())
+    compare_samples(tally, rng, engine, count_samples())
+    compare_samples(tally, rng, engine, samples)
+    compare_runs(tally, engine, runs)

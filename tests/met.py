@@ -1,0 +1,106 @@
+"""What the compared records met: refusals, verdicts, and the turns of 01.
+
+A comparison that never met a refusal or a verdict has shown nothing about it,
+so each one that 01 makes reachable has to be met at least once.
+"""
+
+from collections import Counter
+
+import second
+
+LIST_REFUSALS = (*range(1, 13), 20, 21, 22, 23, 26)
+LIBRARY_REFUSALS = (13, 25)
+
+# 01 leaves verdicts one and five never "not reached" in an accepted record.
+REACHABLE = ((0, 1), (0, 1, 2), (0, 1, 2), (0, 1, 2), (0, 1))
+
+
+def bending_turns(seen, load, report):
+    """Where verdicts one and two turn, and where a layer is just reached."""
+    limit = second.depth_limit(seen.fck) * report.dm
+    yield "|M| is MRd", abs(load.m) == report.mrd
+    yield "|M| is MRd + 1", abs(load.m) == report.mrd + 1
+    yield "MRd is negative", report.mrd < 0
+    yield "a layer at 10d = u", any(10 * layer.depth == report.u
+                                    for layer in second.counted(seen))
+    yield "u the last or first beyond 5.6.3(2)", report.dm > 0 and abs(10 * report.u - limit) < 10
+    yield "turned over", load.m < 0
+    yield "u is 1", report.u == 1
+    yield "u is 10h", report.u == second.greatest_depth(seen)
+
+
+def shear_turns(seen, load, report):
+    """The branches of 6.2.2, for a record with tension layers."""
+    axial = second.axial_force_for_shear(seen, load.n)
+    size = second.size_factor(report.dm)
+    yield "|V| is VRd,c", abs(load.v) == report.vrd
+    yield "|V| is VRd,c + 1", abs(load.v) == report.vrd + 1
+    yield "VRd,c held at 0", report.vrd == 0
+    yield "dm below 200", report.dm < 200
+    yield "r without the area (50·As > b·dm)", 50 * report.area > seen.width * report.dm
+    yield "35·q decides", (second.shear_stress(seen, report.area, report.dm)
+                           == 35 * second.least_shear_root(size, seen.fck))
+    yield "c is the cap", axial < load.n
+    yield "c is the cap, fck above 50", axial < load.n and seen.fck > 50
+    yield "c is negative", axial < 0
+
+
+def steel_turns(seen, load, report):
+    """The two inequalities of verdict four."""
+    tensile = second.materials_of(seen).T
+    by_strength = (26 * tensile * seen.width * report.dm
+                   <= 1_000 * report.area * seen.fyk)
+    by_ratio = 13 * seen.width * report.dm <= 10_000 * report.area
+    yield "9.2.1.1(1): only the strength fails", by_ratio and not by_strength
+    yield "9.2.1.1(1): only 0.0013 fails", by_strength and not by_ratio
+
+
+def turns(section, load, report):
+    """The names of all turns that an accepted record meets."""
+    seen = second.as_compressed(section, load.m)
+    area = sum(layer.area for layer in second.counted(seen))
+    found = [*bending_turns(seen, load, report),
+             ("25 times all areas is b·h", 25 * area == seen.width * seen.height)]
+    if report.area:
+        found += [*shear_turns(seen, load, report), *steel_turns(seen, load, report)]
+    return found
+
+
+class Coverage:
+    """Counts over every answer that was compared."""
+
+    def __init__(self):
+        self.refusals = Counter()
+        self.verdicts = [Counter() for _ in REACHABLE]
+        self.turns = Counter()
+
+    def note(self, report):
+        """Count a list line."""
+        self.refusals[report.refusal] += 1
+        if report.refusal == 0:
+            for counter, value in zip(self.verdicts, report.verdicts):
+                counter[value] += 1
+
+    def note_turns(self, section, load, report):
+        """Count where an accepted sample stands."""
+        for name, met in turns(section, load, report):
+            self.turns[name] += met
+
+    def never_met(self, refusals):
+        """What had to be met and was not."""
+        missing = [f"refusal {number}" for number in refusals if not self.refusals[number]]
+        missing += [f"verdict {place} of {value}"
+                    for place, values in enumerate(REACHABLE, 1) for value in values
+                    if not self.verdicts[place - 1][value]]
+        return missing + [name for name, times in self.turns.items() if not times]
+
+    def table(self):
+        """The counts as lines of text."""
+        met = (f"{number}: {times}" for number, times in sorted(self.refusals.items()) if times)
+        yield "refusal (0 is none): " + ", ".join(met)
+        yield "verdicts of accepted records    pass      fail  not reached"
+        for place, counter in enumerate(self.verdicts, 1):
+            yield f"  v{place}                     {counter[0]:11}{counter[1]:10}{counter[2]:13}"
+        yield "where the accepted boundary and random records stand"
+        for name, times in self.turns.items():
+            yield f"  {name}: {times}"

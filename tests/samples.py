@@ -1,0 +1,229 @@
+"""Sections and loads at both sides of every bound of document 01.
+
+Each sample names the refusal that the paper gives it, or None where only the
+comparison of the two implementations decides. Nothing here is random.
+"""
+
+from math import ceil, floor
+from typing import NamedTuple, Optional
+
+import second
+from second import Load, Section
+
+I64_MIN, I64_MAX = -2**63, 2**63 - 1
+U32_MAX = 2**32 - 1
+N_MOST = V_MOST = 500_000_000
+M_MOST = 10**12
+
+
+class Sample(NamedTuple):
+    """A section under a load, and the refusal that 01 states for it."""
+
+    label: str
+    section: Section
+    load: Load
+    refusal: Optional[int] = None
+
+
+def record(section, load):
+    """The record that carries them, in range or not."""
+    return second.assemble(second.fields_written(section, load))
+
+
+# Layers near both faces and inside, some equal depths, sixteen in all.
+SIXTEEN = second.section_of(
+    400, 700, 40, 500, [(50 + 40 * (place // 2), 100 + 10 * place) for place in range(16)])
+SHALLOW = second.section_of(300, 500, 30, 500, [(25, 1_500)])
+UNDER_LOAD = Load(0, 200_000_000, 80_000)
+
+
+def with_layer(section, place, **change):
+    """The section with one place changed."""
+    layers = list(section.layers)
+    layers[place] = layers[place]._replace(**change)
+    return section._replace(layers=tuple(layers))
+
+
+def wild(ordinary):
+    """Values far outside; one equals the ordinary value in its low 32 bits."""
+    return (I64_MIN, -ordinary, -1, 0, 2**32 + ordinary, I64_MAX)
+
+
+def field_samples():
+    """Tests 1, 2 and 4 at both sides of their bounds."""
+    bounds = {"width": (1, 50, 2_000), "height": (2, 50, 2_000), "fyk": (4, 400, 600)}
+    for field, (number, least, most) in bounds.items():
+        inside = (least, least + 1, most - 1, most)
+        for value in (least - 1, *inside, most + 1, *wild(most)):
+            yield Sample(f"{field} {value}", SHALLOW._replace(**{field: value}),
+                         second.NO_LOAD, 0 if value in inside else number)
+
+
+def class_samples():
+    """Test 3: all 14 classes and their neighbours."""
+    for known in second.CLASSES:
+        for value in (known - 1, known, known + 1):
+            yield Sample(f"fck {value}", SHALLOW._replace(fck=value), UNDER_LOAD,
+                         0 if value in second.CLASSES else 3)
+    for value in wild(30):
+        yield Sample(f"fck {value}", SHALLOW._replace(fck=value), UNDER_LOAD, 3)
+
+
+def count_samples():
+    """Test 5 as a record can meet it: no layer, then 1 to 16 of them."""
+    for count in range(17):
+        yield Sample(f"{count} layers", SIXTEEN._replace(count=count), UNDER_LOAD,
+                     0 if count else 5)
+
+
+def layer_samples():
+    """Tests 6 and 7 in the first, a middle and the last layer."""
+    for place in (0, 7, 15):
+        for depth in (0, 1, 699, 700, 701, U32_MAX):
+            yield Sample(f"layer {place} at {depth}", with_layer(SIXTEEN, place, depth=depth),
+                         second.NO_LOAD, 0 if 1 <= depth <= 699 else 6)
+        for area in (0, 1, 20_000, 20_001, U32_MAX):
+            yield Sample(f"layer {place} of {area}", with_layer(SIXTEEN, place, area=area),
+                         second.NO_LOAD, 0 if 1 <= area <= 20_000 else 7)
+    for height in (50, 2_000):
+        for depth in (height - 1, height):
+            deep = second.section_of(300, height, 30, 500, [(depth, 100)])
+            yield Sample(f"depth {depth} in h {height}", deep, second.NO_LOAD,
+                         0 if depth < height else 6)
+
+
+def load_samples():
+    """Tests 8, 9 and 10; within the range N of 500 MN is beyond any section."""
+    for field, number, most in (("n", 8, N_MOST), ("m", 9, M_MOST), ("v", 10, V_MOST)):
+        for value in (-most - 1, -most, most, most + 1, I64_MIN, I64_MAX):
+            reached = (11 if value < 0 else 12) if field == "n" else 0
+            yield Sample(f"{field} {value}", SIXTEEN, second.NO_LOAD._replace(**{field: value}),
+                         reached if abs(value) <= most else number)
+
+
+def reference_samples():
+    """The cases of section A that are loads or depths, with their refusals."""
+    a = second.SECTION_A
+    loads = ((0, 0), (0, -1), (-651_690, 0), (2_505_000, 0))
+    yield from (Sample(f"A, N {n}, M {m}", a, Load(n, m, 0), 0) for n, m in loads)
+    yield Sample("A, N -651691", a, Load(-651_691, 0, 0), 11)
+    yield Sample("A, N 2505001", a, Load(2_505_001, 0, 0), 12)
+    yield Sample("A, depth 500", with_layer(a, 0, depth=500), UNDER_LOAD, 6)
+    yield Sample("A, depth 499", with_layer(a, 0, depth=499), UNDER_LOAD, 0)
+    yield Sample("A, width 49, fck 31", a._replace(width=49, fck=31), UNDER_LOAD, 1)
+
+
+def end_samples():
+    """Tests 11 and 12 at the very newton, for both faces compressed."""
+    for section in (second.SECTION_A, SIXTEEN, SIXTEEN._replace(fck=70, fyk=463)):
+        for m in (0, -1):
+            seen = second.as_compressed(section, m)
+            least = ceil(second.internal_force(seen, 1))
+            most = floor(second.internal_force(seen, second.greatest_depth(seen)))
+            for n, refusal in ((least - 1, 11), (least, 0), (least + 1, 0),
+                               (most - 1, 0), (most, 0), (most + 1, 12)):
+                yield Sample(f"ends, N {n}, M {m}", section, Load(n, m, 0), refusal)
+
+
+# One way to fail each test alone; 6 fails late and 7 early, so that a test
+# which does not ask about all layers first answers 7.
+FAILINGS = {
+    1: lambda section, load: (section._replace(width=49), load),
+    2: lambda section, load: (section._replace(height=2_001), load),
+    3: lambda section, load: (section._replace(fck=31), load),
+    4: lambda section, load: (section._replace(fyk=601), load),
+    5: lambda section, load: (section._replace(count=0), load),
+    6: lambda section, load: (with_layer(section, 15, depth=0), load),
+    7: lambda section, load: (with_layer(section, 0, area=0), load),
+    8: lambda section, load: (section, load._replace(n=N_MOST + 1)),
+    9: lambda section, load: (section, load._replace(m=-M_MOST - 1)),
+    10: lambda section, load: (section, load._replace(v=V_MOST + 1)),
+    11: lambda section, load: (section, load._replace(n=-N_MOST)),
+    12: lambda section, load: (section, load._replace(n=N_MOST)),
+}
+
+
+def order_samples():
+    """Two tests fail at once: 'the first test of a call's sequence'."""
+    for earlier, spoil in FAILINGS.items():
+        yield Sample(f"{earlier} alone", *spoil(SIXTEEN, UNDER_LOAD), earlier)
+        for later in range(earlier + 1, 13):
+            if (earlier, later) != (11, 12):  # N cannot lie below and above
+                spoiled = FAILINGS[later](SIXTEEN, UNDER_LOAD)
+                yield Sample(f"{earlier} before {later}", *spoil(*spoiled), earlier)
+    both_ways = with_layer(with_layer(SIXTEEN, 3, depth=0), 3, area=0)
+    yield Sample("6 before 7 in one layer", both_ways, UNDER_LOAD, 6)
+
+
+def size_factor_samples():
+    """Every dm from 1 to 1,999: the printed table of K, and 2,000 below it."""
+    for depth in range(1, 2_000):
+        deep = second.section_of(1_000, 2_000, 30, 500, [(depth, 1_000)])
+        yield Sample(f"dm {depth}", deep, second.NO_LOAD, 0)
+
+
+def steel_samples():
+    """Every fyk, with every concrete class in turn."""
+    for fyk in range(400, 601):
+        fck = second.CLASSES[fyk % len(second.CLASSES)]
+        yield Sample(f"fyk {fyk}", SIXTEEN._replace(fck=fck, fyk=fyk), Load(1_000_000, -1, 0), 0)
+
+
+def with_steel(section, area):
+    """Section A, or one like it, with another area in its one layer."""
+    return with_layer(section, 0, area=area)
+
+
+def bending_turn_samples():
+    """Verdicts one and two at the turn: MRd of the paper, 10d = u, 5.6.3(2)."""
+    a = second.SECTION_A
+    for m in (257_986_050, 257_986_051, 257_986_052, -6_312_569, -6_312_570):
+        yield Sample(f"A, M {m}", a, Load(0, m, 0), 0)
+    for fck in (30, 50, 55, 90):
+        section = a._replace(fck=fck)
+        limit = second.depth_limit(fck) * 450 // 10
+        for u in (limit, limit + 1, 4_499, 4_500, 4_501):
+            n = ceil(second.internal_force(section, u))
+            yield Sample(f"fck {fck} at u {u}", section, Load(n, 1, 1), 0)
+
+
+def shear_turn_samples():
+    """Verdict three at the turn: VRd,c of the paper, the caps on r and c, 0."""
+    a = second.SECTION_A
+    for v in (86_850, 86_851, 86_852, -86_851, -86_852):
+        yield Sample(f"A, V {v}", a, Load(0, 0, v), 0)
+    for area in (2_699, 2_700, 2_701):  # 50·2,700 is 300·450
+        yield Sample(f"A with area {area}", with_steel(a, area), UNDER_LOAD, 0)
+    for fck, cap in ((30, 600_000), (90, 1_800_000)):  # g·b·h/500
+        for n in (cap - 1, cap, cap + 1):
+            yield Sample(f"fck {fck}, N {n}", a._replace(fck=fck), Load(n, 0, 0), 0)
+    for n in (-1, -600_000, -651_690):
+        yield Sample(f"A, N {n}", a, Load(n, 0, 0), 0)
+
+
+def steel_turn_samples():
+    """Verdicts four and five at the turn, equality included."""
+    a = second.SECTION_A
+    ratio = second.section_of(200, 600, 12, 600, [(500, 130)])     # 13·200·500 = 10,000·130
+    strength = second.section_of(200, 600, 90, 520, [(400, 200)])  # 26·50·200·400 = 1,000·200·520
+    for section, area in ((a, 176), (a, 204), (ratio, 130), (strength, 200), (a, 6_000)):
+        for beside in (area - 1, area, area + 1):                  # 25·6,000 = 300·500
+            yield Sample(f"fck {section.fck} with area {beside}", with_steel(section, beside),
+                         second.NO_LOAD, 0)
+
+
+def load_presence_samples():
+    """N, M and V absent or there, in every combination."""
+    for n in (0, -70_000, 70_000):
+        for m in (0, -90_000_000, 90_000_000):
+            for v in (0, -50_000, 50_000):
+                yield Sample(f"loads {n} {m} {v}", SIXTEEN, Load(n, m, v), 0)
+
+
+def all_samples():
+    """Every fixed sample of this file."""
+    for group in (field_samples, class_samples, count_samples, layer_samples, load_samples,
+                  reference_samples, end_samples, order_samples, bending_turn_samples,
+                  shear_turn_samples, steel_turn_samples, size_factor_samples,
+                  steel_samples, load_presence_samples):
+        yield from group()

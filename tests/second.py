@@ -1,0 +1,728 @@
+#!/usr/bin/env python3
+"""Second implementation of the rectangular section engine, EN 1992-1-1.
+
+Written from document 01 (papers/01-scope.md), heading by heading and in its
+order, with whole numbers and exact fractions only. It shares no code with the
+engine and takes no care of speed: it is here to be read beside the paper.
+
+Run by itself it answers every row of "Reference cases" and prints 'ok' or
+'DIFFERS' for each; the expected values there are the paper's.
+"""
+
+import sys
+from fractions import Fraction
+from functools import lru_cache
+from math import floor  # exact on fractions, and "toward minus infinity"
+from typing import NamedTuple
+
+# --------------------------------------------------------------------------
+# What the engine covers
+# --------------------------------------------------------------------------
+
+PLACES = 16  # "1 to 16 layers"
+
+
+class Layer(NamedTuple):
+    """A layer of reinforcement: depth d from the top face, area A."""
+
+    depth: int  # mm
+    area: int   # mm²
+
+
+class Section(NamedTuple):
+    """Width b, height h, concrete class, steel, and the counted layers."""
+
+    width: int   # b, mm
+    height: int  # h, mm
+    fck: int     # N/mm²
+    fyk: int     # N/mm²
+    count: int
+    layers: tuple  # the places; those beyond the count are never read
+
+
+class Load(NamedTuple):
+    """N (positive in compression), M about mid-height, V."""
+
+    n: int  # N
+    m: int  # N·mm
+    v: int  # N
+
+
+def section_of(width, height, fck, fyk, layers):
+    """A section whose places beyond its layers hold zeros, as a read one has."""
+    given = tuple(Layer(*layer) for layer in layers)
+    empty = (Layer(0, 0),) * (PLACES - len(given))
+    return Section(width, height, fck, fyk, len(given), given + empty)
+
+
+NO_SECTION = section_of(0, 0, 0, 0, ())
+NO_LOAD = Load(0, 0, 0)
+
+
+def counted(section):
+    """'Places beyond the counted layers are never read.'"""
+    return section.layers[:section.count]
+
+
+# --------------------------------------------------------------------------
+# Materials
+# --------------------------------------------------------------------------
+
+CLASSES = (12, 16, 20, 25, 30, 35, 40, 45, 50, 55, 60, 70, 80, 90)
+T_ROW = (16, 19, 22, 26, 29, 32, 35, 38, 41, 42, 44, 46, 48, 50)
+E_ROW = (700, 700, 700, 700, 700, 700, 700, 700, 700, 620, 580, 540, 520, 520)
+
+
+class Materials(NamedTuple):
+    """The letters of the heading 'Materials'."""
+
+    T: int  # fctm in tenths of N/mm²
+    E: int  # 200,000 N/mm² times εcu3 of Table 3.1
+    L: int  # 80 times the depth factor of the stress block
+    f: int  # strength of the block, hundredths of N/mm²
+    g: int  # the same without the strength factor
+    s: int  # strength of the steel, hundredths of N/mm²
+
+
+def depth_factor(fck):
+    """3.1.7(3): 0.8 up to fck 50, above it 0.8 − (fck−50)/400."""
+    return Fraction(8, 10) - Fraction(max(fck - 50, 0), 400)
+
+
+def strength_factor(fck):
+    """3.1.7(3): 1 up to fck 50, above it 1 − (fck−50)/200."""
+    return 1 - Fraction(max(fck - 50, 0), 200)
+
+
+@lru_cache(maxsize=None)
+def materials(fck, fyk):
+    """'Strengths are in hundredths of N/mm², rounded down once.'"""
+    concrete = 100 * fck / Fraction(3, 2)     # 100·fck/1.5
+    steel = 100 * fyk / Fraction(115, 100)    # 100·fyk/1.15
+    block_depth = 80 * depth_factor(fck)
+    assert block_depth.denominator == 1       # "L ... always whole"
+    return Materials(
+        T=T_ROW[CLASSES.index(fck)],
+        E=E_ROW[CLASSES.index(fck)],
+        L=int(block_depth),
+        f=floor(strength_factor(fck) * concrete),
+        g=floor(concrete),
+        s=floor(steel),
+    )
+
+
+def materials_of(section):
+    """The materials of a section that passed tests 3 and 4."""
+    return materials(section.fck, section.fyk)
+
+
+# --------------------------------------------------------------------------
+# Equilibrium. A depth u is in tenths of a millimetre and may be a fraction:
+# "The same formulas give force and unrounded moment at a depth that is a
+# fraction of two whole numbers."
+# --------------------------------------------------------------------------
+
+
+def turned_over(section):
+    """'For M < 0 the section is turned over: every d becomes h−d.'"""
+    turned = tuple(Layer(section.height - layer.depth, layer.area)
+                   for layer in counted(section))
+    return section._replace(layers=turned)
+
+
+def as_compressed(section, m):
+    """'The face that M compresses is the top for M ≥ 0.'"""
+    return section if m >= 0 else turned_over(section)
+
+
+def greatest_depth(section):
+    """'Depth u runs from 1 to 10h tenths of a millimetre.'"""
+    return 10 * section.height
+
+
+def concrete_force(section, u):
+    """'Concrete force: f·L·b·u/80,000 newtons.'"""
+    mat = materials_of(section)
+    return Fraction(mat.f * mat.L * section.width) * u / 80_000
+
+
+def steel_stress(mat, layer, u):
+    """'E·(u−10d)/u, held between −s/100 and +s/100.' (3.2.7, flat branch)"""
+    limit = Fraction(mat.s, 100)
+    elastic = mat.E * Fraction(u - 10 * layer.depth) / u
+    return max(-limit, min(limit, elastic))
+
+
+def layer_force(mat, layer, u):
+    """'area times stress', compression positive, for one layer."""
+    return layer.area * steel_stress(mat, layer, u)
+
+
+def internal_force(section, u):
+    """'Internal force at u: concrete force plus the sum over all layers.'"""
+    mat = materials_of(section)
+    steel = sum(layer_force(mat, layer, u) for layer in counted(section))
+    return concrete_force(section, u) + steel
+
+
+def greatest(holds, least, beyond):
+    """The greatest whole number from least to beyond−1 at which holds.
+
+    Halving is enough wherever holds, once false, stays false; it must be
+    true at least and is not asked at beyond.
+    """
+    while beyond - least > 1:
+        middle = (least + beyond) // 2
+        if holds(middle):
+            least = middle
+        else:
+            beyond = middle
+    return least
+
+
+def is_depth_returned(section, n, u):
+    """u is in the range, its force at most N, and the next tenth's above N."""
+    last = greatest_depth(section)
+    return (1 <= u <= last
+            and internal_force(section, u) <= n
+            and (u == last or internal_force(section, u + 1) > n))
+
+
+def depth_returned(section, n):
+    """'the greatest u of the range at which the internal force is at most N'
+
+    The concrete force grows with u, the elastic stress E·(1 − 10d/u) grows
+    with u, and holding it between two limits keeps the order. So the force
+    rises strictly with u: halving finds the greatest u, and a look at the
+    neighbour shows that there is no greater one.
+    """
+    u = greatest(lambda depth: internal_force(section, depth) <= n,
+                 1, greatest_depth(section) + 1)
+    assert is_depth_returned(section, n, u)
+    return u
+
+
+def concrete_moment(section, u):
+    """'Concrete moment: f·L·b·u·(800h−L·u)/128,000,000', not rounded here."""
+    mat = materials_of(section)
+    arm = 800 * section.height - mat.L * u
+    return Fraction(mat.f * mat.L * section.width) * u * arm / 128_000_000
+
+
+def layer_moment(section, layer, u):
+    """'Each layer's moment: force times (h/2−d)', not rounded here."""
+    arm = Fraction(section.height, 2) - layer.depth
+    return layer_force(materials_of(section), layer, u) * arm
+
+
+def moments(section, u):
+    """The concrete moment, then each layer's, nothing rounded."""
+    return [concrete_moment(section, u)] + [
+        layer_moment(section, layer, u) for layer in counted(section)]
+
+
+def rounded_down(moment):
+    """'Rounded down' always means toward minus infinity.'"""
+    return floor(moment)
+
+
+def moment_resistance(section, u):
+    """'Their sum is the moment resistance MRd', each rounded down by itself."""
+    return sum(rounded_down(moment) for moment in moments(section, u))
+
+
+def unrounded_moment(section, u):
+    """The concrete moment plus each layer's, at any fraction depth."""
+    return sum(moments(section, u))
+
+
+# --------------------------------------------------------------------------
+# The accuracy statement
+# --------------------------------------------------------------------------
+
+
+def allowance(section, growth):
+    """'h/2 times the growth, plus 1 N·mm, plus 1 N·mm for each counted layer'"""
+    return Fraction(section.height, 2) * growth + 1 + section.count
+
+
+def force_accurate(seen, n, u, depth):
+    """The force is below n where the depth is less than u, at most n at u, above n from u + 1 on."""
+    force = internal_force(seen, depth)
+    if depth < u:
+        return force < n
+    if depth == u:
+        return force <= n
+    return depth < u + 1 or force > n
+
+
+def moment_accurate(seen, u, moment_reported, depth):
+    """From u to u + 1 the difference is no more than the allowance."""
+    if not u <= depth <= u + 1:
+        return True
+    growth = internal_force(seen, depth) - internal_force(seen, u)
+    return abs(unrounded_moment(seen, depth) - moment_reported) <= allowance(seen, growth)
+
+
+def accuracy_holds(section, load, u, moment_reported, p, q):
+    """Demand 3 at the one depth of p/q tenths, for an accepted call.
+
+    The load's m gives the face compressed in the call (0 for Find a depth).
+    A depth outside the range is not compared.
+    """
+    seen = as_compressed(section, load.m)
+    depth = Fraction(p, q)
+    if not 1 <= depth <= greatest_depth(seen):
+        return True
+    return force_accurate(seen, load.n, u, depth) and moment_accurate(seen, u, moment_reported, depth)
+
+
+# --------------------------------------------------------------------------
+# Verdicts, five in this sequence
+# --------------------------------------------------------------------------
+
+PASS, FAIL, NOT_REACHED = 0, 1, 2
+
+
+def verdict(passed):
+    """'0 is pass, 1 fail'"""
+    return PASS if passed else FAIL
+
+
+def tension_layers(section, u):
+    """'Tension layers are those with 10d > u.'"""
+    return [layer for layer in counted(section) if 10 * layer.depth > u]
+
+
+def tension_reinforcement(section, u):
+    """As and dm: 'their area-weighted mean depth rounded down', or 0 and 0."""
+    layers = tension_layers(section, u)
+    area = sum(layer.area for layer in layers)
+    if not layers:
+        return 0, 0
+    return area, floor(Fraction(sum(layer.area * layer.depth for layer in layers), area))
+
+
+def bending_verdict(load, mrd):
+    """1. 6.1: 'pass when |M| ≤ MRd'."""
+    return verdict(abs(load.m) <= mrd)
+
+
+def depth_limit(fck):
+    """5.6.3(2): 45 up to fck 50, else 35 (hundredths of dm)."""
+    return 45 if fck <= 50 else 35
+
+
+def rotation_verdict(section, u, dm):
+    """2. 5.6.3(2): '10u ≤ 45·dm up to fck 50, else 10u ≤ 35·dm'."""
+    return verdict(10 * u <= depth_limit(section.fck) * dm)
+
+
+def size_factor(dm):
+    """K: '1,000 plus the greatest k with k²·dm ≤ 200,000,000, never above 2,000'"""
+    k = greatest(lambda number: number**2 * dm <= 200_000_000, 0, 200_000_001)
+    return min(1_000 + k, 2_000)
+
+
+def reinforcement_root(section, area, dm):
+    """r: 'greatest whole number with r³·b·dm ≤ 10¹¹·As·fck', or the capped one.
+
+    'where 50·As > b·dm, with r³ ≤ 2·10⁹·fck instead' (ratio above 0.02).
+    """
+    if 50 * area > section.width * dm:
+        bound = Fraction(2 * 10**9 * section.fck)
+    else:
+        bound = Fraction(10**11 * area * section.fck, section.width * dm)
+    return greatest(lambda r: r**3 <= bound, 0, floor(bound) + 1)
+
+
+def least_shear_root(size, fck):
+    """q: 'the greatest with 1,000·q² ≤ K³·fck'"""
+    return greatest(lambda q: 1_000 * q**2 <= size**3 * fck, 0, size**3 * fck + 1)
+
+
+def axial_force_for_shear(section, n):
+    """c: 'the lesser of N and g·b·h/500 rounded down' (0.2·fcd, no block factor)"""
+    mat = materials_of(section)
+    return min(n, floor(Fraction(mat.g * section.width * section.height, 500)))
+
+
+def shear_stress(section, area, dm):
+    """v: 'the greater of 12·K·r/100 rounded down and 35·q'"""
+    size = size_factor(dm)
+    root = reinforcement_root(section, area, dm)
+    return max(floor(Fraction(12 * size * root, 100)),
+               35 * least_shear_root(size, section.fck))
+
+
+def shear_resistance(section, n, area, dm):
+    """VRd,c of 6.2.2: two terms, each rounded down, 'or 0 if that is negative'."""
+    if area == 0:
+        return 0
+    stress = shear_stress(section, area, dm)
+    axial = axial_force_for_shear(section, n)
+    return max(0, floor(Fraction(stress * section.width * dm, 1_000_000))
+               + floor(Fraction(15 * axial * dm, 100 * section.height)))
+
+
+def shear_verdict(load, vrd):
+    """3. 6.2.2: 'pass when |V| ≤ VRd,c'."""
+    return verdict(abs(load.v) <= vrd)
+
+
+def least_steel_verdict(section, area, dm):
+    """4. 9.2.1.1(1): '26·T·b·dm ≤ 1,000·As·fyk and 13·b·dm ≤ 10,000·As'."""
+    tensile = materials_of(section).T
+    return verdict(26 * tensile * section.width * dm <= 1_000 * area * section.fyk
+                   and 13 * section.width * dm <= 10_000 * area)
+
+
+def most_steel_verdict(section):
+    """5. 9.2.1.1(3): '25 times the area of all layers ≤ b·h'."""
+    area = sum(layer.area for layer in counted(section))
+    return verdict(25 * area <= section.width * section.height)
+
+
+class Report(NamedTuple):
+    """The answer of Check; a refusal 'returns zeros and verdicts 2'."""
+
+    refusal: int
+    u: int
+    mrd: int
+    vrd: int
+    dm: int
+    area: int  # As
+    verdicts: tuple
+
+
+def refused(number):
+    """'A refusal returns zeros and verdicts 2.'"""
+    return Report(number, 0, 0, 0, 0, 0, (NOT_REACHED,) * 5)
+
+
+def report_at(seen, load, u):
+    """The numbers and the five verdicts, for the section as compressed."""
+    mrd = moment_resistance(seen, u)
+    area, dm = tension_reinforcement(seen, u)
+    vrd = shear_resistance(seen, load.n, area, dm)
+    if area == 0:  # "the second, third and fourth verdicts are 2"
+        middle = (NOT_REACHED,) * 3
+    else:
+        middle = (rotation_verdict(seen, u, dm), shear_verdict(load, vrd),
+                  least_steel_verdict(seen, area, dm))
+    verdicts = (bending_verdict(load, mrd), *middle, most_steel_verdict(seen))
+    return Report(0, u, mrd, vrd, dm, area, verdicts)
+
+
+# --------------------------------------------------------------------------
+# The record
+# --------------------------------------------------------------------------
+
+MANDATORY_BITS = range(0, 4)   # b, h, fck, fyk
+SIGNED_BITS = range(0, 7)      # b, h, fck, fyk, N, M, V
+LAYER_BITS = range(8, 24)
+FORBIDDEN_BITS = (7, *range(24, 32))
+
+
+def record_length(bits):
+    """'The length is 4 plus 8 times the number of bits that stand.'"""
+    return 4 + 8 * len(bits)
+
+
+def bits_that_stand(data):
+    """The bits of the 4-byte map that comes first, lowest bit first."""
+    bit_map = int.from_bytes(data[:4], "big")
+    return [bit for bit in range(32) if bit_map >> bit & 1]
+
+
+def assemble(fields):
+    """'A 4-byte bit map comes first, then 8 bytes for each bit that stands,
+    lowest bit first.' fields gives the 8 bytes of each bit."""
+    bit_map = sum(1 << bit for bit in fields)
+    return bit_map.to_bytes(4, "big") + b"".join(fields[bit] for bit in sorted(fields))
+
+
+def signed_bytes(number):
+    """Bits 0 to 6: 'each signed', big-endian."""
+    return number.to_bytes(8, "big", signed=True)
+
+
+def layer_bytes(layer):
+    """'an unsigned 4-byte depth and then 4-byte area'"""
+    return layer.depth.to_bytes(4, "big") + layer.area.to_bytes(4, "big")
+
+
+def fields_written(section, load):
+    """'The writer omits a zero N, M or V and uses the lowest layer bits.'"""
+    always = (section.width, section.height, section.fck, section.fyk)
+    fields = {bit: signed_bytes(number) for bit, number in enumerate((*always, *load))
+              if bit in MANDATORY_BITS or number != 0}
+    for bit, layer in zip(LAYER_BITS, counted(section)):
+        fields[bit] = layer_bytes(layer)
+    return fields
+
+
+def fields_read(data, bits):
+    """The 8 bytes of each bit that stands, taken 'lowest bit first'."""
+    return {bit: data[4 + 8 * place:12 + 8 * place] for place, bit in enumerate(bits)}
+
+
+def meaning(fields):
+    """'N, M or V may be missing and is then 0'; 'layers are taken by rising bit'."""
+    numbers = [int.from_bytes(fields.get(bit, bytes(8)), "big", signed=True)
+               for bit in SIGNED_BITS]
+    layers = [Layer(int.from_bytes(fields[bit][:4], "big"), int.from_bytes(fields[bit][4:], "big"))
+              for bit in LAYER_BITS if bit in fields]
+    return section_of(*numbers[:4], layers), Load(*numbers[4:])
+
+
+# --------------------------------------------------------------------------
+# When a call is turned down
+# --------------------------------------------------------------------------
+
+
+def outside(number, least, most):
+    """'each means outside the range above'"""
+    return not least <= number <= most
+
+
+def first_failing(tests):
+    """'The first test of a call's sequence that fails gives the refusal.'"""
+    return next((number for number, fails in tests if fails), 0)
+
+
+def section_tests(section):
+    """Section tests 1 to 7; 'a test over layers asks about all of them'."""
+    layers = counted(section)
+    return (
+        (1, outside(section.width, 50, 2_000)),
+        (2, outside(section.height, 50, 2_000)),
+        (3, section.fck not in CLASSES),
+        (4, outside(section.fyk, 400, 600)),
+        (5, outside(section.count, 1, PLACES)),
+        (6, any(outside(layer.depth, 1, section.height - 1) for layer in layers)),
+        (7, any(outside(layer.area, 1, 20_000) for layer in layers)),
+    )
+
+
+def axial_test(n):
+    """'8 N out of range'"""
+    return ((8, outside(n, -500_000_000, 500_000_000)),)
+
+
+def load_tests(load):
+    """8 N, '9 M out of range, 10 V out of range'."""
+    return axial_test(load.n) + (
+        (9, outside(load.m, -10**12, 10**12)),
+        (10, outside(load.v, -500_000_000, 500_000_000)),
+    )
+
+
+def face_tests(seen, n):
+    """'11 N below the internal force at depth 1, 12 N above ... at depth 10h'"""
+    return (
+        (11, n < internal_force(seen, 1)),
+        (12, n > internal_force(seen, greatest_depth(seen))),
+    )
+
+
+def find_depth(section, n):
+    """Find a depth: 1 to 7, 8, 11, 12; 'always the top here'. Refusal and u."""
+    refusal = (first_failing(section_tests(section) + axial_test(n))
+               or first_failing(face_tests(section, n)))
+    return (refusal, 0) if refusal else (0, depth_returned(section, n))
+
+
+def moment_at_depth(section, u):
+    """Moment at a depth: 1 to 7, 13; 'the top is compressed here too'."""
+    refusal = first_failing(section_tests(section)
+                            + ((13, outside(u, 1, greatest_depth(section))),))
+    return (refusal, 0) if refusal else (0, moment_resistance(section, u))
+
+
+def check(section, load):
+    """Check: 1 to 10, 'then 11 and 12 for the face compressed'."""
+    refusal = first_failing(section_tests(section) + load_tests(load))
+    if refusal:
+        return refused(refusal)
+    seen = as_compressed(section, load.m)
+    refusal = first_failing(face_tests(seen, load.n))
+    if refusal:
+        return refused(refusal)
+    return report_at(seen, load, depth_returned(seen, load.n))
+
+
+UNREADABLE = (20, 21, 22)  # refusals after which no length is known
+
+
+class Reading(NamedTuple):
+    """The answer of Read a record."""
+
+    refusal: int
+    length: int
+    section: Section
+    load: Load
+
+
+def refused_reading(number, length):
+    """Zeros but for the length: 'the length is answered, for 20 to 22 as 0'."""
+    return Reading(number, 0 if number in UNREADABLE else length, NO_SECTION, NO_LOAD)
+
+
+def read_record(data):
+    """Read a record: 20, 21, 22, 23, 'then 1 to 10'."""
+    if len(data) < 4:
+        return refused_reading(20, 0)
+    bits = bits_that_stand(data)
+    length = record_length(bits)
+    refusal = first_failing((
+        (21, any(bit in bits for bit in FORBIDDEN_BITS)),
+        (22, len(data) < length),
+        (23, any(bit not in bits for bit in MANDATORY_BITS)),
+    ))
+    if refusal:
+        return refused_reading(refusal, length)
+    section, load = meaning(fields_read(data, bits))
+    refusal = first_failing(section_tests(section) + load_tests(load))
+    if refusal:
+        return refused_reading(refusal, length)
+    return Reading(0, length, section, load)
+
+
+def write_record(section, load, buffer):
+    """Write a record: 1 to 10, 25. Answers refusal and length.
+
+    'A success ... changes that many first bytes and no others.'
+    """
+    refusal = first_failing(section_tests(section) + load_tests(load))
+    if refusal:
+        return refusal, 0
+    record = assemble(fields_written(section, load))
+    if len(buffer) < len(record):
+        return 25, 0
+    buffer[:len(record)] = record
+    return 0, len(record)
+
+
+# --------------------------------------------------------------------------
+# The list
+# --------------------------------------------------------------------------
+
+HEADER = "rec ref u mrd vrd dm as v1 v2 v3 v4 v5\n"
+INPUT_ROOM = 65_536
+
+
+def list_line(number, report):
+    """'number from 1, refusal or 0, u, MRd, VRd,c, dm, As, five verdicts'"""
+    values = (number, *report[:6], *report.verdicts)
+    return " ".join(str(value) for value in values) + "\n"
+
+
+def list_answers(data):
+    """Number, bytes and report of each record; 'records back to back'."""
+    if len(data) > INPUT_ROOM:
+        yield 0, b"", refused(26)  # "the one further line has number 0"
+        return
+    number, start = 0, 0
+    while start < len(data):
+        number += 1
+        reading = read_record(data[start:])
+        if reading.refusal:
+            report = refused(reading.refusal)
+        else:
+            report = check(reading.section, reading.load)
+        ended = reading.refusal in UNREADABLE  # "after 20, 21 or 22 the list ends"
+        stop = len(data) if ended else start + reading.length
+        yield number, data[start:stop], report
+        start = stop
+
+
+def list_text(data):
+    """The whole of what the check list program prints."""
+    return HEADER + "".join(list_line(number, report)
+                            for number, _, report in list_answers(data))
+
+
+# --------------------------------------------------------------------------
+# Reference cases: expected values written out from the paper
+# --------------------------------------------------------------------------
+
+SECTION_A = section_of(300, 500, 30, 500, [(450, 1_500)])
+EXAMPLE = bytes.fromhex(
+    "0000016F" "000000000000012C" "00000000000001F4" "000000000000001E"
+    "00000000000001F4" "000000000BEBC200" "0000000000013880" "000001C2000005DC")
+EXAMPLE_LIST = ("rec ref u mrd vrd dm as v1 v2 v3 v4 v5\n"
+                "1 0 1358 257986051 86851 450 1500 0 0 0 0 0\n")
+
+
+def equilibrium_rows():
+    """The cases of A under N and M: (what it says, computed, expected)."""
+    turned = turned_over(SECTION_A)
+    at_end = check(SECTION_A, Load(2_505_000, 0, 0))
+    return [
+        ("A, N 0 from the top: u", find_depth(SECTION_A, 0), (0, 1_358)),
+        ("A, internal force at 1,358", internal_force(SECTION_A, 1_358), -330),
+        ("A, internal force at 1,359", internal_force(SECTION_A, 1_359), 150),
+        ("A, N 0: MRd", check(SECTION_A, NO_LOAD).mrd, 257_986_051),
+        ("A, N 0: Moment at depth 1,358", moment_at_depth(SECTION_A, 1_358), (0, 257_986_051)),
+        ("A, M -1: u and MRd", check(SECTION_A, Load(0, -1, 0))[1:3], (419, 6_312_569)),
+        ("A, M -1: the layer alone",
+         rounded_down(layer_moment(turned, counted(turned)[0], 419)), -40_596_659),
+        ("A, N -651,690: u 1", find_depth(SECTION_A, -651_690), (0, 1)),
+        ("A, N -651,691: refusal 11", find_depth(SECTION_A, -651_691), (11, 0)),
+        ("A, N 2,505,000: u 5,000", find_depth(SECTION_A, 2_505_000), (0, 5_000)),
+        ("A, N 2,505,000: MRd", at_end.mrd, 99_000_000),
+        ("A, N 2,505,000: verdicts two to four", at_end.verdicts[1:4], (2, 2, 2)),
+        ("A, N 2,505,001: refusal 12", find_depth(SECTION_A, 2_505_001), (12, 0)),
+    ]
+
+
+def clause_rows():
+    """The cases of shear and materials."""
+    return [
+        ("A, N 0: K", size_factor(450), 1_666),
+        ("A, N 0: r", reinforcement_root(SECTION_A, 1_500, 450), 3_218),
+        ("A, N 0: q", least_shear_root(1_666, 30), 11_778),
+        ("K at 200", size_factor(200), 2_000),
+        ("K at 201", size_factor(201), 1_997),
+        ("K at 1,999", size_factor(1_999), 1_316),
+        ("f for fck 55", materials(55, 500).f, 3_575),
+        ("f for fck 80", materials(80, 500).f, 4_533),
+        ("s for fyk 500", materials(30, 500).s, 43_478),
+    ]
+
+
+def refusal_rows():
+    """The cases of the section tests, and the list printed in 'The list'."""
+    def refusal(**change):
+        return first_failing(section_tests(SECTION_A._replace(**change)))
+
+    def at_depth(depth):
+        return refusal(layers=(Layer(depth, 1_500),))
+
+    return [
+        ("h 50 passes its test", refusal(height=50) == 2, False),
+        ("h 49 is refusal 2", refusal(height=49), 2),
+        ("a depth of 500 in A is refusal 6", at_depth(500), 6),
+        ("a depth of 499 in A is accepted", at_depth(499), 0),
+        ("width 49 with fck 31 is refusal 1", refusal(width=49, fck=31), 1),
+        ("the input of 60 bytes: its length", len(EXAMPLE), 60),
+        ("the input of 60 bytes: what it prints", list_text(EXAMPLE), EXAMPLE_LIST),
+    ]
+
+
+def main():
+    """Print every reference case; exit status 1 where one differs."""
+    failed = 0
+    rows = equilibrium_rows() + clause_rows() + refusal_rows()
+    for name, computed, expected in rows:
+        same = computed == expected
+        failed += not same
+        print(f"{'ok' if same else 'DIFFERS':8}{name}"
+              + ("" if same else f": {computed}, the paper says {expected}"))
+    print(f"{len(rows) - failed} passed, {failed} failed")
+    return 1 if failed else 0
+
+
+if __name__ == "__main__":
+    sys.exit(main())

@@ -1,0 +1,50 @@
+"""Counts comparisons, prints differences, and spot-checks the accuracy."""
+
+import second
+from met import Coverage
+from samples import record
+
+
+class Tally:
+    """What was compared, what differed, and what was met."""
+
+    def __init__(self):
+        self.passed = 0
+        self.failed = 0
+        self.coverage = Coverage()
+
+    def compare(self, label, subject, expected, got):
+        """Count one comparison; on a difference print its input and both answers."""
+        if expected == got:
+            self.passed += 1
+            return
+        self.failed += 1
+        print(f"DIFFERS {label}\n  input    {subject}\n  expected {expected}\n  answered {got}")
+
+    def require(self, label, met):
+        """Count one condition that has no second answer beside it."""
+        if met:
+            self.passed += 1
+            return
+        self.failed += 1
+        print(f"FAILS {label}")
+
+
+def depths_compared(rng, section, u):
+    """Two fractions p/q of the range: an end, at or just about u and u + 1, or any."""
+    last = second.greatest_depth(section)
+    fine = rng.randint(2, 10**6)
+    below = (max(u * fine - 1, fine), fine)
+    within = (min(u * fine + rng.randint(1, fine), last * fine), fine)
+    beyond = (min((u + 1) * fine + 1, last * fine), fine)
+    anywhere = (rng.randint(fine, last * fine), fine)
+    ends = ((1, 1), (u, 1), (min(u + 1, last), 1), (last, 1))
+    return rng.sample((*ends, below, within, beyond, anywhere), 2)
+
+
+def check_accuracy(tally, rng, section, load, u, moment):
+    """Demand 3 for one accepted answer, in exact fractions at a few depths."""
+    for p, q in depths_compared(rng, section, u):
+        tally.require(f"accuracy at {p}/{q} for u {u} and moment {moment} of "
+                      f"{record(section, load).hex()}",
+                      second.accuracy_holds(section, load, u, moment, p, q))
