@@ -50,7 +50,7 @@ typedef struct {
     uint64_t refusal, u;
     int64_t mrd;
     uint64_t vrd, dm, area;
-    uint8_t verdicts[5];
+    uint64_t verdicts[5];
 } salwoerk_report;
 salwoerk_report salwoerk_check(salwoerk_section section, salwoerk_load load);
 

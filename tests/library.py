@@ -24,7 +24,7 @@ STRUCTS = {
     "Depth": [("refusal", c_uint64), ("u", c_uint64)],
     "Moment": [("refusal", c_uint64), ("moment", c_int64)],
     "Report": [("refusal", c_uint64), ("u", c_uint64), ("mrd", c_int64), ("vrd", c_uint64),
-               ("dm", c_uint64), ("area", c_uint64), ("verdicts", c_uint8, 5)],
+               ("dm", c_uint64), ("area", c_uint64), ("verdicts", c_uint64, 5)],
     "Reading": [("refusal", c_uint8), ("length", c_size_t), ("section", "Section"),
                 ("load", "Load")],
     "Written": [("refusal", c_uint8), ("length", c_size_t)],

@@ -21,7 +21,8 @@ use Rattle.equilibrium.specs.Depth as depth
 use Rattle.equilibrium.specs.Moment as moment
 use Rattle.clauses.specs.SizeFactor.{K}
 use Rattle.clauses.specs.Shear.{r, q}
-use Rattle.clauses.specs.Check.{Listed, listed, checkOf}
+use Rattle.clauses.specs.declared.Listed.{Listed}
+use Rattle.clauses.specs.Check.{listed, checkOf}
 
 pub data Case : Type 0 where
   -- fck and fyk; then T, E, L, f, g and s

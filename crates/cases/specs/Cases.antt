@@ -23,7 +23,8 @@ use Rattle.equilibrium.specs.Moment.{momentIn}
 use Rattle.clauses.specs.SizeFactor.{K}
 use Rattle.clauses.specs.Tension.{tensionLayers, total, meanDepth}
 use Rattle.clauses.specs.Shear.{r, q, v, c, concreteShare, axialShare, VRdc}
-use Rattle.clauses.specs.Check.{Listed, refused, reportAt, checkFace, checkIn}
+use Rattle.clauses.specs.declared.Listed.{Listed}
+use Rattle.clauses.specs.Check.{refused, reportAt, checkFace, checkIn}
 use Rattle.cases.specs.Case.{Case, Case.material, Case.noMaterial, Case.tests, Case.force, Case.found, Case.resists, Case.turnedSteel, Case.sizeFactor, Case.roots, Case.checks, holds}
 
 -- a section with one layer of 1,500 mm², C30 and fyk 500 unless said otherwise

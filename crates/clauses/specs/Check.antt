@@ -21,6 +21,7 @@ use Rattle.equilibrium.specs.Force.{momentResistance}
 use Rattle.equilibrium.specs.Turned.{turned, turnedSection}
 use Rattle.equilibrium.specs.Depth.{depthFor}
 use Rattle.clauses.specs.declared.Verdict.{Verdict}
+use Rattle.clauses.specs.declared.Listed.{Listed}
 use Rattle.clauses.specs.declared.Report.{Report}
 use Rattle.clauses.specs.declared.Checked.{Checked}
 use Rattle.clauses.specs.declared.Checked.the-variants.{Done, Refused}
@@ -93,19 +94,6 @@ checkOf s load = checkIn (counted s) load
 
 -- ---- the paper's number and values for each case of the answer: the refusal, 0 for none, u, MRd, VRd,c, dm, As and the
 -- five verdicts as numbers; a refusal has zeros and 2s
-pub record Listed : Type 0 where
-  pub refusal : ℕ
-  pub u : ℕ
-  pub mrd : ℤ
-  pub vrd : ℕ
-  pub dm : ℕ
-  pub area : ℕ
-  pub v1 : ℕ
-  pub v2 : ℕ
-  pub v3 : ℕ
-  pub v4 : ℕ
-  pub v5 : ℕ
-
 abbrev pub refused : ℕ → Listed
 refused k = record { refusal = k; u = 0; mrd = pos 0; vrd = 0; dm = 0; area = 0; v1 = 2; v2 = 2; v3 = 2; v4 = 2; v5 = 2 }
 

@@ -1,5 +1,6 @@
 // What the clauses of EN 1992-1-1 say of a section and its load: document 01, "Verdicts".
 pub mod check;
+pub mod numbers;
 pub mod power;
 pub mod shear;
 pub mod size;
@@ -44,6 +45,23 @@ pub struct Report {
 pub enum Checked {
     Done(Report),
     Refused(u8),
+}
+
+// Document 01's numbers for each case of the answer: the refusal, 0 for none, what is reported, and the five verdicts, 0 pass,
+// 1 fail, 2 not reached. A refusal has zeros and 2s.
+#[repr(C)]
+pub struct Listed {
+    pub refusal: u64,
+    pub u: u64,
+    pub mrd: i64,
+    pub vrd: u64,
+    pub dm: u64,
+    pub area: u64,
+    pub v1: u64,
+    pub v2: u64,
+    pub v3: u64,
+    pub v4: u64,
+    pub v5: u64,
 }
 
 // Check a section under a load, for the face that M compresses.

@@ -1,8 +1,8 @@
--- `engine::done_check` meets its contract. Assumes nothing.
+-- `clauses::numbers::report_listed` meets its contract. Assumes nothing.
 use Rattle.arith.proofs.Machine.{field}
 use borrow.Author.Needs.{needs}
-use Rattle.engine.proofs.done_check.Statement.{statement}
-use Rattle.engine.proofs.done_check.Tie as tie
+use Rattle.clauses.proofs.numbers.report_listed.Statement.{statement}
+use Rattle.clauses.proofs.numbers.report_listed.Tie as tie
 
 verdict-number-requires : tie.Need-verdict-number-requires
 verdict-number-requires c κs = search needs
@@ -27,7 +27,7 @@ returns c =
     let two = three .before in
     let one = two .before in
     simp (
-      field (one .before .args .r .mrd) (c .struct-told .given .1 .0 .1),
+      field (one .before .args .report .mrd) (c .struct-told .given .1 .0 .1),
       one .verdict-number .ensures,
       two .verdict-number2 .ensures,
       three .verdict-number3 .ensures,
@@ -35,8 +35,8 @@ returns c =
       five .verdict-number5 .ensures,
     )
 
-pub done-check-spec : {M : Type 1} → statement M
-done-check-spec =
+pub report-listed-spec : {M : Type 1} → statement M
+report-listed-spec =
     tie.close
     (tie.spec
     verdict-number-requires
