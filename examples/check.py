@@ -1,0 +1,45 @@
+#!/usr/bin/env python3
+"""Section A of the scope document through the C library, by ctypes.
+
+    gcc -shared -o libsalwoerk.so -Wl,--whole-archive target/staticlib/libengine.a -Wl,--no-whole-archive
+    python3 examples/check.py ./libsalwoerk.so
+"""
+
+import ctypes
+import sys
+from ctypes import c_int64, c_size_t, c_uint32, c_uint64
+
+
+class Layer(ctypes.Structure):
+    _fields_ = [("depth", c_uint32), ("area", c_uint32)]
+
+
+class Section(ctypes.Structure):
+    _fields_ = [("layers", Layer * 16), ("width", c_int64), ("height", c_int64),
+                ("fck", c_int64), ("fyk", c_int64), ("count", c_size_t)]
+
+
+class Load(ctypes.Structure):
+    _fields_ = [("n", c_int64), ("m", c_int64), ("v", c_int64)]
+
+
+class Report(ctypes.Structure):
+    _fields_ = [("refusal", c_uint64), ("u", c_uint64), ("mrd", c_int64), ("vrd", c_uint64),
+                ("dm", c_uint64), ("area", c_uint64), ("verdicts", c_uint64 * 5)]
+
+
+def main():
+    library = ctypes.CDLL(sys.argv[1])
+    check = library.salwoerk_check
+    check.argtypes, check.restype = [Section, Load], Report
+    section = Section(width=300, height=500, fck=30, fyk=500, count=1)
+    section.layers[0] = Layer(depth=450, area=1500)
+    report = check(section, Load(n=0, m=200_000_000, v=80_000))
+    print(report.refusal, report.u, report.mrd, report.vrd, report.dm, report.area,
+          *report.verdicts)
+
+
+if __name__ == "__main__":
+    if len(sys.argv) != 2:
+        sys.exit(__doc__)
+    main()
