@@ -54,6 +54,20 @@ module _ (p : ℕ → Bool) where
       reached t (yes l) = absurd (clash (never u (suc m) h l t) e)
       reached t (no n) = omega arith
 
+  -- 0 passes, and so the greatest does
+  passes-down : p 0 ≡ true → (m : ℕ) → p (greatest p m) ≡ true
+  unfolding greatest
+  passes-down z zero = z
+  passes-down z (suc m) = by-cond (λ (n : ℕ). p n ≡ true) (p (suc m)) (λ t. t) (λ f. passes-down z m)
+
+  -- a bound above which nothing passes leaves nothing out
+  pub record IsGreatest (x : ℕ) : Type 0 where
+    pub passes : p x ≡ true
+    pub most : (k : ℕ) → p k ≡ true → k ≤ x
+
+  pub greatest-of-all : (m : ℕ) → p 0 ≡ true → ((k : ℕ) → p k ≡ true → k ≤ m) → IsGreatest (greatest p m)
+  greatest-of-all m z bound = record { passes = passes-down z m; most = λ k e. le-greatest m k (bound k e) e }
+
   -- ---- halving: the greatest is one of the candidates from `lo` to `hi`, and each trial leaves fewer
   pub record Candidates (m lo hi : ℕ) : Type 0 where
     pub low : lo ≤ greatest p m
@@ -76,3 +90,9 @@ module _ (p : ℕ → Bool) where
   -- one remains
   pub found : {m lo hi : ℕ} → hi ≤ lo → Candidates m lo hi → lo ≡ greatest p m
   found h c = omega arith
+
+-- two tests that agree have one greatest number
+pub greatest-same : (p q : ℕ → Bool) (m : ℕ) → ((k : ℕ) → p k ≡ q k) → greatest p m ≡ greatest q m
+unfolding greatest
+greatest-same p q zero same = refl
+greatest-same p q (suc m) same = rw (same (suc m), greatest-same p q m same)

@@ -11,6 +11,7 @@ use lib.Signed.{leZ, ltZ, _≤ℤ_, _<ℤ_, leZ-yes, ltZ-yes, ltZ-no, clashℤ, 
 use mir.Syntax.{w64}
 use mir.Val.{SFits, Fits, ofZ, toZ}
 use mir.Facts.{fits-natAbs, toZ-ofZ}
+use Rattle.arith.specs.Chain.{unless}
 use Rattle.arith.proofs.Ring.{P, of-lt, of-le, le-of, lt-of}
 
 -- ---- truth values
@@ -37,6 +38,29 @@ and-yes false b t = absurd t
 
 pub both-true : (a b : Bool) → a && b ≡ true → (a ≡ true) × (b ≡ true)
 both-true a b e = let t = and-yes a b (holds e) in (is-true a (t .0), is-true b (t .1))
+
+pub and-true : {a b : Bool} → a ≡ true → b ≡ true → a && b ≡ true
+and-true p q = rw (p, q)
+
+pub and-assoc : (a b c : Bool) → (a && b) && c ≡ a && (b && c)
+and-assoc true b c = refl
+and-assoc false b c = refl
+
+pub and-idr : (a : Bool) → a && true ≡ a
+and-idr true = refl
+and-idr false = refl
+
+-- two tests that pass together are the same
+pub same-test : (a b : Bool) → (a ≡ true → b ≡ true) → (b ≡ true → a ≡ true) → a ≡ b
+same-test true true f g = refl
+same-test true false f g = absurd (clash (f refl) refl)
+same-test false true f g = absurd (clash (g refl) refl)
+same-test false false f g = refl
+
+-- where a chain of tests ends with 0, each test of it was passed
+pub chain-passed : {A : Type 0} (f : A → ℕ) (t : Bool) (r rest : A) → (f r ≡ 0 → ⊥) → f (unless t r rest) ≡ 0 → (t ≡ true) × (f rest ≡ 0)
+chain-passed f true r rest n e = (refl, e)
+chain-passed f false r rest n e = absurd (n e)
 
 -- a call's test r, which is t, at the arms of `if !r`
 pub failed : {r t : Bool} → r ≡ t → not r ≡ true → t ≡ false

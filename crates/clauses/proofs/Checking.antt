@@ -10,6 +10,7 @@ use lib.Signed.{leZ}
 use Rattle.arith.specs.Chain.{unless}
 use Rattle.arith.specs.Greatest.{greatest}
 use Rattle.arith.proofs.Range.{symmetric}
+use Rattle.arith.proofs.Test.{chain-passed}
 use Rattle.equilibrium.specs.declared.Layer.{Layer}
 use Rattle.equilibrium.specs.declared.Section.{Section}
 use Rattle.equilibrium.specs.declared.Load.{Load}
@@ -62,13 +63,11 @@ usable-faced {x} M s w = go (leZ (pos 0) M)
 -- ---- the load
 
 pub load-ok : (l : Load) → loadRefusal l ≡ 0 → LoadOk l
-load-ok l e = go (forceOk (l .n)) (momentOk (l .m)) (forceOk (l .v)) refl refl refl e
-  where
-    go : (n m v : Bool) → forceOk (l .n) ≡ n → momentOk (l .m) ≡ m → forceOk (l .v) ≡ v → _≡_ {A = ℕ} (unless n 8 (unless m 9 (unless v 10 0))) 0 → LoadOk l
-    go true true true n m v z = record { n-in = symmetric 500000000 (l .n) n; m-in = symmetric 1000000000000 (l .m) m; v-in = symmetric 500000000 (l .v) v }
-    go true true false n m v z = absurd (omega arith)
-    go true false b n m v z = absurd (omega arith)
-    go false a b n m v z = absurd (omega arith)
+load-ok l e =
+    let n = chain-passed (λ (k : ℕ). k) (forceOk (l .n)) 8 _ (λ z. omega arith) e in
+    let m = chain-passed (λ (k : ℕ). k) (momentOk (l .m)) 9 _ (λ z. omega arith) (n .1) in
+    let v = chain-passed (λ (k : ℕ). k) (forceOk (l .v)) 10 0 (λ z. omega arith) (m .1) in
+    record { n-in = symmetric 500000000 (l .n) (n .0); m-in = symmetric 1000000000000 (l .m) (m .0); v-in = symmetric 500000000 (l .v) (v .0) }
 
 -- ---- accuracy
 

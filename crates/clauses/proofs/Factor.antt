@@ -13,7 +13,7 @@ use Rattle.arith.proofs.Test.{is-true, and-yes}
 use Rattle.clauses.specs.SizeFactor.{K, Printed}
 use Rattle.clauses.specs.Power.{powerAtMost}
 use Rattle.clauses.proofs.Powers.{never-back}
-use Rattle.clauses.proofs.Table.{everyFrom, entry}
+use Rattle.arith.proofs.Computed.{everyFrom, entry}
 
 -- x is K at dm: x − 1,000 passes, and the next number does not
 abbrev pub right : ℕ → ℕ → Bool

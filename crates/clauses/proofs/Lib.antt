@@ -1,5 +1,4 @@
 pub mod Powers
-pub mod Table
 pub mod Factor
 pub mod Layers
 pub mod Roots

@@ -1,11 +1,10 @@
--- The test kᵉ·a ≤ y: it never comes back, and what it says of a greatest number. Assumes nothing.
+-- The test kᵉ·a ≤ y: it never comes back, and its products as the code makes them. Assumes nothing.
 use mathlib.Core.Path.{_≡_, refl}
 use mathlib.Core.Bool.{Bool}
 use Prim.Native.Nat.{ℕ, zero, suc, _*_, _^_, _≤_}
 use native.Mathlib.Nat.{one-mul, pow-suc, pow-zero, le-trans, mul-le-mul-right, pow-le-pow-left, lt-of-le-of-lt, le-mul-of-pos-right}
 use native.Mathlib.Omega.{arith}
 use borrow.Author.Tests.{leb-true, le-leb}
-use Rattle.arith.specs.Greatest.{greatest}
 use Rattle.arith.proofs.Greatest.{NeverBack}
 use Rattle.clauses.specs.Power.{powerAtMost, PowerFits}
 
@@ -29,9 +28,3 @@ cube a k = rw (pow-suc k 2, two k) (omega arith)
 pub grows : (n k : ℕ) → n * k ≤ n * k * k
 grows n zero = omega arith
 grows n (suc k) = le-mul-of-pos-right (n * suc k) (omega arith)
-
--- two tests that agree have one greatest number
-pub greatest-same : (p q : ℕ → Bool) (m : ℕ) → ((k : ℕ) → p k ≡ q k) → greatest p m ≡ greatest q m
-unfolding greatest
-greatest-same p q zero same = refl
-greatest-same p q (suc m) same = rw (same (suc m), greatest-same p q m same)

@@ -14,12 +14,12 @@ use Rattle.arith.specs.Greatest.{greatest}
 use Rattle.arith.specs.Integer.{Within}
 use Rattle.arith.proofs.Bound.{lit, mul-in}
 use Rattle.arith.proofs.Floor.{floor-in}
-use Rattle.arith.proofs.Greatest.{greatest-le, le-greatest}
+use Rattle.arith.proofs.Greatest.{IsGreatest, greatest-le, greatest-of-all, greatest-same}
 use Rattle.arith.proofs.Test.{P-neg-zero}
 use Rattle.clauses.specs.Power.{powerAtMost}
 use Rattle.clauses.specs.SizeFactor.{K}
 use Rattle.clauses.specs.Shear.{rTest, r, qTest, q, v, c, concreteShare, axialShare, orZero, StressBounds}
-use Rattle.clauses.proofs.Powers.{greatest-same, cube}
+use Rattle.clauses.proofs.Powers.{cube}
 
 -- ---- how large they are
 pub K-high : (dm : ℕ) → K dm ≤ 2000
@@ -89,24 +89,6 @@ or-zero-natural (pos k) h = refl
 or-zero-natural (negsuc k) h = absurd (h .le)
 
 -- ---- the greatest of all: what 01 says of r and q
-pub record IsGreatest (p : ℕ → Bool) (x : ℕ) : Type 0 where
-  pub passes : p x ≡ true
-  pub most : (k : ℕ) → p k ≡ true → k ≤ x
-
--- 0 passes, and so the greatest does
-passes-down : (p : ℕ → Bool) → p 0 ≡ true → (m : ℕ) → p (greatest p m) ≡ true
-unfolding greatest
-passes-down p z zero = z
-passes-down p z (suc m) = picked (p (suc m)) refl (passes-down p z m)
-  where
-    picked : (t : Bool) → p (suc m) ≡ t → p (greatest p m) ≡ true → p (cond t (suc m) (greatest p m)) ≡ true
-    picked true e below = e
-    picked false e below = below
-
--- a bound above which nothing passes leaves nothing out
-greatest-of-all : (p : ℕ → Bool) (m : ℕ) → p 0 ≡ true → ((k : ℕ) → p k ≡ true → k ≤ m) → IsGreatest p (greatest p m)
-greatest-of-all p m z bound = record { passes = passes-down p z m; most = λ k e. le-greatest p m k (bound k e) e }
-
 -- a number whose power is below that of the next one
 root-below : (e m : ℕ) {k : ℕ} → k ^ e < suc m ^ e → k ≤ m
 root-below e m {k} h = below (decLe (suc m) k)

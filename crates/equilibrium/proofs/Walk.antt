@@ -9,7 +9,7 @@ use lib.IntN.{ℤ, pos, _+ℤ_, +ℤ-idr}
 use lib.ListN.{length, take, drop, getD}
 use lib.Seq.{drop-cons, getD-take, length-take-le}
 use Rattle.arith.proofs.Ring.{#, _⊕_, ring}
-use Rattle.arith.proofs.Test.{both-true}
+use Rattle.arith.proofs.Test.{both-true, and-assoc, and-idr}
 use Rattle.equilibrium.specs.declared.Layer.{Layer}
 use Rattle.equilibrium.specs.declared.Section.{Section}
 use Rattle.equilibrium.specs.Section.{layersOf, all}
@@ -33,21 +33,13 @@ over zero ls = refl
 over (suc n) [] = refl
 over (suc n) (l ∷ ls) = over n ls
 
-and-assoc : (a b c : Bool) → (a && b) && c ≡ a && (b && c)
-and-assoc true b c = refl
-and-assoc false b c = refl
-
-and-true : (a : Bool) → a && true ≡ a
-and-true true = refl
-and-true false = refl
-
 -- a test over all layers, with the outcome t so far: zs is what is left, l the next layer and ys what is left after it
 module _ (p : Layer → Bool) (t : Bool) (ls : List Layer) {zs : List Layer} where
   pub all-step : {u : Bool} {ys : List Layer} {l : Layer} → zs ≡ l ∷ ys → u ≡ t && p l → t && all p zs ≡ all p ls → u && all p ys ≡ all p ls
   all-step {ys} {l} nx e inv = rw e (and-assoc t (p l) (all p ys) ∙ (rw nx at inv))
 
   pub all-done : zs ≡ [] → t && all p zs ≡ all p ls → t ≡ all p ls
-  all-done nx inv = sym (and-true t) ∙ (rw nx at inv)
+  all-done nx inv = sym (and-idr t) ∙ (rw nx at inv)
 
 -- what passed of all layers passes of the one at i
 all-drop : (p : Layer → Bool) (i : ℕ) (ls : List Layer) → all p ls ≡ true → all p (drop i ls) ≡ true

@@ -8,12 +8,11 @@ use native.Mathlib.Omega.{arith}
 use borrow.Author.Tests.{eqb-true, eq-eqb, not-true}
 use lib.Dec.{eqb, lit<}
 use lib.Pow.{mod-pow-add}
-use Rattle.arith.proofs.Test.{both-true, clash}
+use Rattle.arith.proofs.Test.{both-true, clash, same-test, and-true}
 use Rattle.record.specs.Map.{stands}
 use Rattle.record.specs.Fields.{fieldOf}
 use Rattle.record.specs.Read.{hasField, known, complete}
 use Rattle.record.proofs.Bits.{bit-zero, zero-bit}
-use Rattle.record.proofs.Laws.{same-test, and-true}
 
 -- where every standing bit has a field, a bit that has none is 0
 or-left : (a b : Bool) → a || not b ≡ true → a ≡ false → b ≡ false

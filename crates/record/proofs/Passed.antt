@@ -10,11 +10,10 @@ use lib.Dec.{T, leb, ltb, lit<}
 use lib.IntN.{ℤ, pos, negℤ, natAbs}
 use lib.ListN.{getD}
 use lib.Signed.{mag}
-use Rattle.arith.specs.Chain.{unless}
 use Rattle.arith.specs.Integer.{inRange}
 use Rattle.arith.proofs.Bound.{fits64}
 use Rattle.arith.proofs.Range.{natural, symmetric}
-use Rattle.arith.proofs.Test.{both-true}
+use Rattle.arith.proofs.Test.{both-true, chain-passed}
 use Rattle.materials.specs.Answer.{materialsOf, Promise, Promised}
 use Rattle.materials.specs.declared.Answer.{Answer}
 use Rattle.materials.specs.declared.Answer.the-variants as materials
@@ -40,12 +39,6 @@ pub record Passed (c : Counted) (l : Load) : Type 0 where
   pub v : mag (l .v) < 2 ^ 63
   pub depths : (j : ℕ) → getD (c .layers) j noLayer .depth < 2 ^ 32
   pub areas : (j : ℕ) → getD (c .layers) j noLayer .area < 2 ^ 32
-
--- where a chain ends with 0, each test of it was passed
-module _ {A : Type 0} (f : A → ℕ) where
-  passed : (t : Bool) (r rest : A) → (f r ≡ 0 → ⊥) → f (unless t r rest) ≡ 0 → (t ≡ true) × (f rest ≡ 0)
-  passed true r rest n e = (refl, e)
-  passed false r rest n e = absurd (n e)
 
 not-zero : (k : ℕ) → suc k ≡ 0 → ⊥
 not-zero k e = omega arith
@@ -80,16 +73,16 @@ known-materials c l (materials.Refused k) (inr four) e = absurd (omega arith)
 pub all-passed : (c : Counted) (l : Load) → refusalOf c l ≡ 0 → Passed c l
 unfolding refusalOf accepted
 all-passed c l e =
-    let b = passed (refusalAfter l) (inRange (pos 50) (pos 2000) (c .width)) (Refused 1) _ (not-zero 0) e in
-    let h = passed (refusalAfter l) (inRange (pos 50) (pos 2000) (c .height)) (Refused 2) (materialsTested c (materialsOf (c .fck) (c .fyk))) (not-zero 1) (b .1) in
+    let b = chain-passed (refusalAfter l) (inRange (pos 50) (pos 2000) (c .width)) (Refused 1) _ (not-zero 0) e in
+    let h = chain-passed (refusalAfter l) (inRange (pos 50) (pos 2000) (c .height)) (Refused 2) (materialsTested c (materialsOf (c .fck) (c .fyk))) (not-zero 1) (b .1) in
     let k = known-materials c l (materialsOf (c .fck) (c .fyk)) (promise (c .fck) (c .fyk)) (h .1) in
     let x : Design = record { b = natAbs (c .width); h = natAbs (c .height); m = k .values } in
-    let count = passed (refusalAfter l) (leb 1 (c .count) && leb (c .count) 16) (Refused 5) _ (not-zero 4) (k .rest) in
-    let depths = passed (refusalAfter l) (all (depthOk (x .h)) (c .layers)) (Refused 6) _ (not-zero 5) (count .1) in
-    let areas = passed (refusalAfter l) (all areaOk (c .layers)) (Refused 7) (Ready x) (not-zero 6) (depths .1) in
-    let n = passed (λ (k : ℕ). k) (forceOk (l .n)) 8 _ (not-zero 7) (areas .1) in
-    let m = passed (λ (k : ℕ). k) (momentOk (l .m)) 9 _ (not-zero 8) (n .1) in
-    let v = passed (λ (k : ℕ). k) (forceOk (l .v)) 10 0 (not-zero 9) (m .1) in
+    let count = chain-passed (refusalAfter l) (leb 1 (c .count) && leb (c .count) 16) (Refused 5) _ (not-zero 4) (k .rest) in
+    let depths = chain-passed (refusalAfter l) (all (depthOk (x .h)) (c .layers)) (Refused 6) _ (not-zero 5) (count .1) in
+    let areas = chain-passed (refusalAfter l) (all areaOk (c .layers)) (Refused 7) (Ready x) (not-zero 6) (depths .1) in
+    let n = chain-passed (λ (k : ℕ). k) (forceOk (l .n)) 8 _ (not-zero 7) (areas .1) in
+    let m = chain-passed (λ (k : ℕ). k) (momentOk (l .m)) 9 _ (not-zero 8) (n .1) in
+    let v = chain-passed (λ (k : ℕ). k) (forceOk (l .v)) 10 0 (not-zero 9) (m .1) in
     let range = both-true (leb 1 (c .count)) (leb (c .count) 16) (count .0) in
     let high = natural 50 2000 (c .height) (h .0) .high in
     record {

@@ -12,7 +12,7 @@ use lib.IntN.{ℤ, pos, negsuc}
 use lib.ListN.{length, getD, take, drop, replicate, length-append}
 use lib.Seq.{take-suc, take-all, take-at, length-take-le}
 use lib.Signed.{mag}
-use Rattle.arith.proofs.Test.{clash, both-true}
+use Rattle.arith.proofs.Test.{clash, both-true, and-true}
 use Rattle.equilibrium.specs.Section.{Counted, counted, layersOf}
 use Rattle.equilibrium.specs.Load.{refusalOf}
 use Rattle.equilibrium.specs.declared.Layer.{Layer}
@@ -28,7 +28,6 @@ use Rattle.record.proofs.Bits.{bit-zero}
 use Rattle.record.proofs.Cases.{start, chosen}
 use Rattle.record.proofs.Digits.{length-bytes, read-back, signed-unsigned, unsigned-fits}
 use Rattle.record.proofs.Known.{known-low}
-use Rattle.record.proofs.Laws.{and-true}
 use Rattle.record.proofs.Passed.{Passed, all-passed}
 use Rattle.record.proofs.Places.{layer-bit, layers-yes, layers-no}
 use Rattle.record.proofs.Writing.{stands-written, map-small, layer-field, length-field, fields-yes, length-fields, length-record}
