@@ -1,0 +1,4 @@
+pub mod Decimal
+pub mod Finishing
+pub mod Following
+pub mod Longest

@@ -1,0 +1,70 @@
+// The check list: document 01, "The list". From the bytes of an input the lines of its records, into a lent buffer.
+pub mod entries;
+pub mod line;
+pub mod text;
+
+use entries::entry_of;
+use entries::refused_entry;
+use line::put_line;
+ghost use mathlib.Core.Path.{_≡_};
+ghost use Prim.Native.Nat.{_≤_};
+ghost use lib.ListN.{length};
+ghost use Rattle.clauses.specs.Check.{refused};
+ghost use Rattle.listing.specs.Line.{line};
+ghost use Rattle.listing.specs.Records.{ends, listOf};
+ghost use Rattle.listing.specs.Buffer.{Put, roomFor};
+
+// The values of a line: refusal or 0, u, MRd, VRd,c, dm, As and the five verdicts as numbers.
+pub struct Entry {
+    pub refusal: u64,
+    pub u: u64,
+    pub mrd: i64,
+    pub vrd: u64,
+    pub dm: u64,
+    pub area: u64,
+    pub v1: u64,
+    pub v2: u64,
+    pub v3: u64,
+    pub v4: u64,
+    pub v5: u64,
+}
+
+// Does the list end after this refusal? No length is known after 20, 21 and 22.
+pub fn list_ends(refusal: u8) -> bool
+    ensures { λ r. ⌜ r ≡ ends refusal ⌝ }
+{
+    match refusal {
+        20 | 21 | 22 => true,
+        _ => false,
+    }
+}
+
+// The lines of the records in `input`, at the start of `out`; answers how many bytes they are.
+pub fn list(input: &[u8], out: &mut [u8]) -> usize
+    requires { ⌜ roomFor (length (now input)) ≤ length (now out) ⌝ }
+    ensures { λ r. ⌜ Put (now (out .entry)) 0 (listOf (now (input .entry))) (now (out .exit)) r ⌝ }
+{
+    let mut number = 1u64;
+    let mut from = 0usize;
+    let mut at = 0usize;
+    while from < input.len() {
+        let reading = record::reader::read(&input[from..]);
+        let refusal = reading.refusal;
+        let length = reading.length;
+        at = put_line(out, at, number, entry_of(reading));
+        if list_ends(refusal) {
+            return at;
+        }
+        from += length;
+        number += 1;
+    }
+    at
+}
+
+// The one line for an input that is too long, refusal 26, with the number 0.
+pub fn list_too_long(out: &mut [u8]) -> usize
+    requires { ⌜ roomFor 0 ≤ length (now out) ⌝ }
+    ensures { λ r. ⌜ Put (now (out .entry)) 0 (line 0 (refused 26)) (now (out .exit)) r ⌝ }
+{
+    put_line(out, 0, 0, refused_entry(26))
+}
