@@ -3,34 +3,31 @@ use Prim.Native.Nat.{ℕ, _*_, _≤_}
 use mathlib.Core.Bool.{Bool, true, false, cond}
 use mathlib.Core.List.{List}
 use mathlib.Core.Path.{_≡_, refl, sym, ap, _∙_}
-use native.Mathlib.Omega.{arith}
 use lib.Dec.{eqb}
 use lib.IntN.{ℤ, pos}
 use lib.Signed.{leZ}
 use Rattle.arith.specs.Chain.{unless}
-use Rattle.arith.specs.Greatest.{greatest}
-use Rattle.arith.proofs.Range.{symmetric}
-use Rattle.arith.proofs.Test.{chain-passed}
 use Rattle.equilibrium.specs.declared.Layer.{Layer}
 use Rattle.equilibrium.specs.declared.Section.{Section}
 use Rattle.equilibrium.specs.declared.Load.{Load}
 use Rattle.equilibrium.specs.declared.Design.{Design}
 use Rattle.equilibrium.specs.declared.Accepted.{Accepted}
 use Rattle.equilibrium.specs.declared.Accepted.the-variants as section
+use Rattle.equilibrium.specs.declared.Depth.{Depth}
 use Rattle.equilibrium.specs.declared.Depth.the-variants as depth
-use Rattle.equilibrium.specs.Section.{layersOf, counted, accepted}
-use Rattle.equilibrium.specs.Load.{forceOk, momentOk, loadRefusal}
-use Rattle.equilibrium.specs.Usable.{Usable}
+use Rattle.equilibrium.specs.Section.{layersOf, Counted, counted, accepted}
+use Rattle.equilibrium.specs.Load.{loadRefusal}
+use Rattle.equilibrium.specs.Usable.{Usable, PromisedSection}
 use Rattle.equilibrium.specs.Turned.{turned, turnedSection}
-use Rattle.equilibrium.specs.Depth.{carries, reaches, depthFor}
-use Rattle.equilibrium.specs.Accuracy.{Accurate}
-use Rattle.equilibrium.proofs.Usable.{UsableIf, usable, depths-within}
+use Rattle.equilibrium.specs.Depth.{depthFor}
+use Rattle.equilibrium.specs.Accuracy.{Accurate, PromisedDepth}
+use Rattle.equilibrium.proofs.Usable.{section-promise}
+use Rattle.equilibrium.proofs.Found.{depth-promise}
 use Rattle.equilibrium.proofs.Turned.{turned-layers, usable-turned}
-use Rattle.equilibrium.proofs.Accuracy.{accuracy}
 use Rattle.clauses.specs.declared.Checked.{Checked}
 use Rattle.clauses.specs.declared.Checked.the-variants.{Done, Refused}
 use Rattle.clauses.specs.Tension.{Counts}
-use Rattle.clauses.specs.Check.{LoadOk, facing, facedSection, reportAt, reportAfter, checkFace, checkAfter, checkIn, checkOf}
+use Rattle.clauses.specs.Check.{facing, facedSection, reportAt, reportAfter, checkFace, checkAfter, checkIn, checkOf}
 use Rattle.clauses.specs.Accuracy.{AccurateAfter, AccurateCheck}
 use Rattle.clauses.proofs.Layers.{counts}
 
@@ -60,30 +57,21 @@ usable-faced {x} M s w = go (leZ (pos 0) M)
     go true = w
     go false = rw (turned-layers (x .h) s) (usable-turned (layersOf s) w)
 
--- ---- the load
-
-pub load-ok : (l : Load) → loadRefusal l ≡ 0 → LoadOk l
-load-ok l e =
-    let n = chain-passed (λ (k : ℕ). k) (forceOk (l .n)) 8 _ (λ z. omega arith) e in
-    let m = chain-passed (λ (k : ℕ). k) (momentOk (l .m)) 9 _ (λ z. omega arith) (n .1) in
-    let v = chain-passed (λ (k : ℕ). k) (forceOk (l .v)) 10 0 (λ z. omega arith) (m .1) in
-    record { n-in = symmetric 500000000 (l .n) (n .0); m-in = symmetric 1000000000000 (l .m) (m .0); v-in = symmetric 500000000 (l .v) (v .0) }
-
 -- ---- accuracy
 
 abbrev AccurateFace : Design → List Layer → Load → Checked → Type 0
 AccurateFace x ls load (Done r) = Accurate x ls (load .n) (r .u) (r .mrd)
 AccurateFace x ls load (Refused k) = Unit {0}
 
+-- from the promise of the depth
+reported : (x : Design) (ls : List Layer) (load : Load) (d : Depth) → PromisedDepth x ls (load .n) d → AccurateFace x ls load (reportAfter x ls load d)
+unfolding reportAt
+reported x ls load (depth.At u) p = p .accurate
+reported x ls load (depth.Refused k) p = tt
+
 face-accurate : {count : ℕ} (x : Design) (ls : List Layer) (load : Load) → Usable x count ls → AccurateFace x ls load (checkFace x ls load)
-unfolding checkFace depthFor reportAt
-face-accurate x ls load w = go (carries x ls (load .n) 1) (reaches x ls (load .n)) refl
-  where
-    go : (one top : Bool) → carries x ls (load .n) 1 ≡ one →
-        AccurateFace x ls load (reportAfter x ls load (unless one (depth.Refused 11) (unless top (depth.Refused 12) (depth.At (greatest (carries x ls (load .n)) (10 * x .h))))))
-    go false top c = tt
-    go true false c = tt
-    go true true c = accuracy x ls (load .n) (w .bounded) c (depths-within (x .h) ls (w .depths))
+unfolding checkFace
+face-accurate x ls load w = reported x ls load (depthFor x ls (load .n)) (depth-promise (load .n) w)
 
 -- a face that is accurate is so after the load's tests too
 on : (ls : List Layer) (load : Load) (x : Design) (t : Bool) (k : ℕ) (r : Checked) → AccurateFace x (facing (load .m) (x .h) ls) load r → AccurateAfter ls load (section.Ready x) (unless t (Refused k) r)
@@ -91,14 +79,15 @@ on ls load x false k r h = tt
 on ls load x true k (Done r) h = h
 on ls load x true k (Refused j) h = tt
 
-after : (ls : List Layer) (load : Load) (count : ℕ) (a : Accepted) → UsableIf count ls a → AccurateAfter ls load a (checkAfter ls load a)
-after ls load count (section.Refused k) w = tt
-after ls load count (section.Ready x) w =
-    on ls load x (eqb (loadRefusal load) 0) (loadRefusal load) _ (face-accurate x (facing (load .m) (x .h) ls) load (usable-facing (load .m) ls w))
+after : (c : Counted) (load : Load) (a : Accepted) → PromisedSection c a → AccurateAfter (c .layers) load a (checkAfter (c .layers) load a)
+after c load (section.Refused k) p = tt
+after c load (section.Ready x) p =
+    let ls = c .layers in
+    on ls load x (eqb (loadRefusal load) 0) (loadRefusal load) _ (face-accurate x (facing (load .m) (x .h) ls) load (usable-facing (load .m) ls (p .usable)))
 
 pub check-accurate : (s : Section) (load : Load) → AccurateCheck s load (checkOf s load)
 unfolding checkIn
-check-accurate s load = after (layersOf s) load (s .count) (accepted (counted s)) (usable s)
+check-accurate s load = after (counted s) load (accepted (counted s)) (section-promise s)
 
 -- the second clause of `check_section` follows from its first
 pub both-clauses : (s : Section) (load : Load) {r : Checked} → r ≡ checkOf s load → (r ≡ checkOf s load) × AccurateCheck s load r

@@ -6,7 +6,6 @@ use lib.Dec.{eqb}
 use lib.IntN.{ℤ, pos}
 use lib.Signed.{leZ}
 use Rattle.arith.specs.Chain.{unless}
-use Rattle.arith.specs.Integer.{Within}
 use Rattle.equilibrium.specs.declared.Layer.{Layer}
 use Rattle.equilibrium.specs.declared.Section.{Section}
 use Rattle.equilibrium.specs.declared.Load.{Load}
@@ -28,12 +27,6 @@ use Rattle.clauses.specs.declared.Checked.the-variants.{Done, Refused}
 use Rattle.clauses.specs.Tension.{areaOf, As, dm}
 use Rattle.clauses.specs.Shear.{VRdc}
 use Rattle.clauses.specs.Verdicts.{numberOf, first, second, third, fourth, fifth}
-
--- a load that passed the tests 8 to 10
-pub record LoadOk (load : Load) : Type 0 where
-  pub n-in : Within (load .n) 500000000
-  pub m-in : Within (load .m) 1000000000000
-  pub v-in : Within (load .v) 500000000
 
 -- the layers as the compressed face sees them: the top for M ≥ 0, and for M < 0 the section turned over
 abbrev pub facing : ℤ → ℕ → List Layer → List Layer

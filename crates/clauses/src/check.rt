@@ -9,11 +9,10 @@ use equilibrium::Design;
 use equilibrium::Load;
 use equilibrium::Section;
 ghost use mathlib.Core.Path.{_≡_};
-ghost use Rattle.arith.specs.Integer.{Within};
 ghost use Rattle.equilibrium.specs.Section.{layersOf};
-ghost use Rattle.equilibrium.specs.Usable.{Usable};
+ghost use Rattle.equilibrium.specs.Usable.{Usable, LoadOk};
 ghost use Rattle.equilibrium.specs.Whole.{DepthOk};
-ghost use Rattle.clauses.specs.Check.{LoadOk, facing, facedSection, reportAt, checkFace};
+ghost use Rattle.clauses.specs.Check.{facing, facedSection, reportAt, checkFace};
 
 // The section as the compressed face sees it: turned over for M < 0.
 fn faced(x: Design, s: Section, m: i64) -> Section

@@ -1,6 +1,8 @@
 -- The accuracy statement, demand 3 of document 01. Assumes nothing.
 use Prim.Native.Nat.{ℕ, _+_, _*_, _≤_}
 use mathlib.Core.List.{List}
+use mathlib.Core.Logic.{_⊎_}
+use mathlib.Core.Path.{_≡_}
 use lib.IntN.{ℤ}
 use lib.ListN.{length}
 use Rattle.arith.specs.Fraction.{Fraction, Proper, Ratio, by, whole, integer, _+ᶠ_, _-ᶠ_, _*ᶠ_, _/ᶠ_, _≤ᶠ_, _<ᶠ_, _≤ʳ_, _<ʳ_, DifferAtMost}
@@ -13,6 +15,7 @@ use Rattle.equilibrium.specs.declared.Depth.{Depth}
 use Rattle.equilibrium.specs.declared.Depth.the-variants.{At, Refused}
 use Rattle.equilibrium.specs.Section.{counted, accepted}
 use Rattle.equilibrium.specs.Force.{at, internalForce, unroundedMoment, momentResistance}
+use Rattle.equilibrium.specs.Whole.{DepthOk}
 use Rattle.equilibrium.specs.Moment.{momentAt, momentFound}
 
 -- 01's "range": every p/q tenths, q above 0, from 1 to 10h with both ends
@@ -42,6 +45,16 @@ pub record Accurate (x : Design) (ls : List Layer) (N : ℤ) (u : ℕ) (reported
   pub above : (y : Ratio) → Range (x .h) y → at (u + 1) ≤ʳ y → integer N <ᶠ internalForce x ls y
   -- and from u to u + 1 the unrounded moment differs from the reported one by no more than the allowance
   pub near : (y : Ratio) → Range (x .h) y → at u ≤ʳ y → y ≤ʳ at (u + 1) → DifferAtMost (allowance x ls u y) (unroundedMoment x ls y) (integer reported)
+
+-- The promise of the depth for a face, by cases: a depth of the range, accurate with the moment resistance there; or 11 or 12.
+-- All that a part above uses of it.
+pub record DepthPromise (x : Design) (ls : List Layer) (N : ℤ) (u : ℕ) : Type 0 where
+  pub depth : DepthOk x u
+  pub accurate : Accurate x ls N u (momentResistance x ls u)
+
+abbrev pub PromisedDepth : Design → List Layer → ℤ → Depth → Type 0
+PromisedDepth x ls N (At u) = DepthPromise x ls N u
+PromisedDepth x ls N (Refused k) = (k ≡ 11) ⊎ (k ≡ 12)
 
 -- Of Find a depth: a depth that is answered is accurate, with the moment that Moment at a depth answers for the same section
 -- and u; and only an accepted section has one.

@@ -3,11 +3,16 @@ use Prim.Native.Nat.{ℕ, _≤_, _<_}
 use mathlib.Core.Bool.{true}
 use mathlib.Core.List.{List}
 use mathlib.Core.Path.{_≡_}
+use lib.IntN.{pos}
 use lib.ListN.{length}
+use Rattle.arith.specs.Integer.{Within}
 use Rattle.materials.specs.Answer.{Bounds}
 use Rattle.equilibrium.specs.declared.Layer.{Layer}
+use Rattle.equilibrium.specs.declared.Load.{Load}
 use Rattle.equilibrium.specs.declared.Design.{Design}
-use Rattle.equilibrium.specs.Section.{all, depthOk, areaOk}
+use Rattle.equilibrium.specs.declared.Accepted.{Accepted}
+use Rattle.equilibrium.specs.declared.Accepted.the-variants.{Ready, Refused}
+use Rattle.equilibrium.specs.Section.{Counted, all, depthOk, areaOk}
 
 -- the bounds of the numbers: b and h by their tests, the others by the promise of the materials
 pub record Bounded (x : Design) : Type 0 where
@@ -32,3 +37,25 @@ pub record LayerOk (h : ℕ) (l : Layer) : Type 0 where
   pub depth-high : l .depth < h
   pub area-low : 1 ≤ l .area
   pub area-high : l .area ≤ 20000
+
+-- the numbers of the design are those of the section
+pub record Asked (c : Counted) (x : Design) : Type 0 where
+  pub width-is : c .width ≡ pos (x .b)
+  pub height-is : c .height ≡ pos (x .h)
+  pub fck-is : c .fck ≡ pos (x .m .fck)
+  pub fyk-is : c .fyk ≡ pos (x .m .fyk)
+
+-- The promise of the section tests, by cases: a usable section; or one of the refusals 1 to 7. All that a part above uses of them.
+pub record SectionPromise (c : Counted) (x : Design) : Type 0 where
+  pub asked : Asked c x
+  pub usable : Usable x (c .count) (c .layers)
+
+abbrev pub PromisedSection : Counted → Accepted → Type 0
+PromisedSection c (Ready x) = SectionPromise c x
+PromisedSection c (Refused k) = (1 ≤ k) × (k ≤ 7)
+
+-- a load that passed the tests 8 to 10
+pub record LoadOk (load : Load) : Type 0 where
+  pub n-in : Within (load .n) 500000000
+  pub m-in : Within (load .m) 1000000000000
+  pub v-in : Within (load .v) 500000000

@@ -13,6 +13,7 @@ ghost use Rattle.arith.specs.Integer.{Within};
 ghost use Rattle.equilibrium.specs.Section.{layersOf};
 ghost use Rattle.equilibrium.specs.Usable.{Bounded, Usable};
 ghost use Rattle.equilibrium.specs.Depth.{carries, reaches, depthFor};
+ghost use Rattle.equilibrium.specs.Accuracy.{PromisedDepth};
 ghost use Rattle.equilibrium.specs.Whole.{DepthOk, concreteAt, excess, Columns, Trial};
 
 // 1,000·E·d of each layer in one column, 800·A in the other.
@@ -103,6 +104,7 @@ fn by_trials(x: Design, s: Section, starts: &[i64; 16], shares: &[i64; 16], n: i
 pub fn depth_for(x: Design, s: Section, n: i64) -> Depth
     requires { ⌜ Usable x (s .count) (layersOf s) × Within n 500000000 ⌝ }
     ensures { λ r. ⌜ r ≡ depthFor x (layersOf s) n ⌝ }
+    ensures promised { λ r. ⌜ PromisedDepth x (layersOf s) n r ⌝ }
 {
     let mut starts = [0i64; 16];
     let mut shares = [0i64; 16];

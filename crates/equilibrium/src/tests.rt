@@ -10,6 +10,7 @@ ghost use mathlib.Core.Path.{_≡_};
 ghost use Prim.Native.Nat.{_+_, _<_, _≤_};
 ghost use lib.ListN.{drop};
 ghost use Rattle.equilibrium.specs.Section.{layersOf, counted, all, depthOk, areaOk, layersTested, accepted};
+ghost use Rattle.equilibrium.specs.Usable.{PromisedSection};
 ghost use Rattle.equilibrium.specs.Load.{loadRefusal, refusalOf};
 
 // The layer at a counted place. A loop that must be quick reads `s.layers[i]` itself: here all places are copied at each call.
@@ -81,6 +82,7 @@ pub fn layers_tested(s: Section, x: Design) -> Accepted
 // Tests 1 to 7.
 pub fn accept(s: Section) -> Accepted
     ensures { λ r. ⌜ r ≡ accepted (counted s) ⌝ }
+    ensures promised { λ r. ⌜ PromisedSection (counted s) r ⌝ }
 {
     if !arith::in_range(50, 2000, s.width) {
         return Accepted::Refused(1);

@@ -205,7 +205,7 @@ module _ (s : Section) (places : length (s .layers) ≡ 16) (few : s .count ≤ 
 
 module _ (s : Section) (l : Load) (places : length (s .layers) ≡ 16) (ok : refusalOf (counted s) l ≡ 0) where
   passed : Passed (counted s) l
-  passed = all-passed (counted s) l ok
+  passed = all-passed s l ok
 
   abbrev c : Counted
   c = counted s

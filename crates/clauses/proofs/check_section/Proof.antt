@@ -6,9 +6,9 @@ use borrow.Author.Tests.{eq-eqb, ne-eqb}
 use Rattle.equilibrium.specs.declared.Accepted.the-variants.{Ready}
 use Rattle.equilibrium.specs.Section.{counted, accepted}
 use Rattle.equilibrium.specs.Load.{loadRefusal}
-use Rattle.equilibrium.proofs.Usable.{usable-by}
+use Rattle.equilibrium.proofs.Usable.{usable-by, load-ok}
 use Rattle.clauses.specs.Check.{checkIn}
-use Rattle.clauses.proofs.Checking.{load-ok, both-clauses}
+use Rattle.clauses.proofs.Checking.{both-clauses}
 use borrow.Author.Needs.{needs}
 use Rattle.clauses.proofs.check_section.Statement.{statement}
 use Rattle.clauses.proofs.check_section.Tie as tie
@@ -27,7 +27,7 @@ load-refusal-requires c κs = search needs
 
 -- an accepted section
 ready : (c : tie.After-x) → accepted (counted (c .before .before .before .args .s)) ≡ Ready (c .x .given .0 .0)
-ready c = sym (c .before .before .accept .ensures) ∙ c .x .given .1
+ready c = sym (c .before .before .accept .ensures .0) ∙ c .x .given .1
 
 check-accepted-requires : tie.Need-check-accepted-requires
 check-accepted-requires c κs =
@@ -39,7 +39,7 @@ returns : tie.Need-returns
 unfolding checkIn
 returns c =
     let a = c .before .before .before .before .args in
-    both-clauses (a .s) (a .l) (simp (sym (c .before .before .before .accept .ensures) ∙ c .before .k .given .1))
+    both-clauses (a .s) (a .l) (simp (sym (c .before .before .before .accept .ensures .0) ∙ c .before .k .given .1))
 
 returns-2 : tie.Need-returns-2
 unfolding checkIn

@@ -28,7 +28,7 @@ in-range-requires c κs = search needs
 
 -- an accepted section, and its load's test
 ready : (c : tie.After-x) → accepted (counted (c .before .before .before .args .s)) ≡ Ready (c .x .given .0 .0)
-ready c = sym (c .before .before .accept .ensures) ∙ c .x .given .1
+ready c = sym (c .before .before .accept .ensures .0) ∙ c .x .given .1
 
 load-is : (c : tie.After-in-range) → c .in-range .result ≡ forceOk (c .before .before .before .before .before .args .n)
 load-is c = c .in-range .ensures ∙ ap forceOk (toZ-ofZ (c .before .before .before .before .before .fits .n))
@@ -43,14 +43,14 @@ returns : tie.Need-returns
 unfolding depthIn
 returns c =
     let s = c .before .before .before .before .args in
-    both-clauses (s .s) (s .n) (simp (sym (c .before .before .before .accept .ensures) ∙ c .before .k .given .1))
+    both-clauses (s .s) (s .n) (simp (sym (c .before .before .before .accept .ensures .0) ∙ c .before .k .given .1))
 
 returns-2 : tie.Need-returns-2
 unfolding depthIn
 returns-2 c =
     let x = c .before .before .before .before in
     let s = x .before .before .before in
-    let found = c .depth-for .ensures ∙ ap (λ (z : ℤ). depthFor (x .x .given .0 .0) (layersOf (s .args .s)) z) (toZ-ofZ (s .fits .n)) in
+    let found = c .depth-for .ensures .0 ∙ ap (λ (z : ℤ). depthFor (x .x .given .0 .0) (layersOf (s .args .s)) z) (toZ-ofZ (s .fits .n)) in
     both-clauses (s .args .s) (s .args .n) (simp (ready x, sym (load-is (c .before .before)) ∙ c .before .if1 .taken, found))
 
 returns-3 : tie.Need-returns-3

@@ -36,7 +36,7 @@ module _ (c : tie.After-x) where
   x = c .x .given .0 .0
 
   ready : accepted (counted s) ≡ Ready x
-  ready = sym (c .before .before .accept .ensures) ∙ c .x .given .1
+  ready = sym (c .before .before .accept .ensures .0) ∙ c .x .given .1
 
   usable : Usable x (s .count) (layersOf s)
   usable = usable-by s ready
@@ -56,7 +56,7 @@ moment-resistance-requires c κs =
 
 returns : tie.Need-returns
 unfolding momentIn
-returns c = simp (sym (c .before .before .before .accept .ensures) ∙ c .before .k .given .1)
+returns c = simp (sym (c .before .before .before .accept .ensures .0) ∙ c .before .k .given .1)
 
 returns-2 : tie.Need-returns-2
 unfolding momentIn

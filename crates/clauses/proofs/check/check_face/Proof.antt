@@ -4,7 +4,6 @@ use lib.IntN.{ℤ}
 use Rattle.arith.proofs.Machine.{field}
 use Rattle.equilibrium.specs.Section.{layersOf}
 use Rattle.equilibrium.specs.Depth.{depthFor}
-use Rattle.equilibrium.proofs.Found.{depth-ok}
 use Rattle.clauses.specs.Check.{checkFace}
 use borrow.Author.Needs.{needs}
 use Rattle.clauses.proofs.check.check_face.Statement.{statement}
@@ -23,14 +22,14 @@ enum-known-u c = search needs
 depth-is : (c : tie.After-depth-for) → c .depth-for .result ≡ depthFor (c .before .before .args .x) (layersOf (c .before .before .args .s)) (c .before .before .args .l .n)
 depth-is c =
     let a = c .before .before .args in
-    c .depth-for .ensures ∙ ap (λ (z : ℤ). depthFor (a .x) (layersOf (a .s)) z) (field (a .l .n) (c .before .struct-told .given .0 .1))
+    c .depth-for .ensures .0 ∙ ap (λ (z : ℤ). depthFor (a .x) (layersOf (a .s)) z) (field (a .l .n) (c .before .struct-told .given .0 .1))
 
 report-at-requires : tie.Need-report-at-requires
 report-at-requires c κs =
     let u = c .before in
     let s = u .before .before .before .before in
-    let a = s .args in
-    (s .pre .0, (s .pre .1, depth-ok (a .x) (layersOf (a .s)) (a .l .n) (s .pre .0 .bounded) (sym (depth-is (u .before .before)) ∙ u .u .given .1)))
+    let promised = rw (u .u .given .1) at (u .before .before .depth-for .ensures .1) in
+    (s .pre .0, (s .pre .1, promised .depth))
 
 returns : tie.Need-returns
 unfolding checkFace

@@ -8,6 +8,7 @@ use Rattle.arith.proofs.Test.{failed, passed}
 use Rattle.materials.specs.Answer.{materialsOf}
 use Rattle.equilibrium.specs.declared.Section.{Section}
 use Rattle.equilibrium.specs.Section.{accepted}
+use Rattle.equilibrium.proofs.Usable.{with-promise}
 use borrow.Author.Needs.{needs}
 use Rattle.equilibrium.proofs.tests.accept.Statement.{statement}
 use Rattle.equilibrium.proofs.tests.accept.Tie as tie
@@ -25,7 +26,7 @@ height-is c =
 
 returns : tie.Need-returns
 unfolding accepted
-returns c = simp (failed (width-is (c .before)) (c .if1 .taken))
+returns c = with-promise (c .before .before .before .args .s) (simp (failed (width-is (c .before)) (c .if1 .taken)))
 
 in-range-requires-2 : tie.Need-in-range-requires-2
 in-range-requires-2 c κs = search needs
@@ -34,7 +35,7 @@ returns-2 : tie.Need-returns-2
 unfolding accepted
 returns-2 c =
     let w = c .before .before .before in
-    simp (passed (width-is (w .before)) (w .if1 .left), failed (height-is (c .before)) (c .if2 .taken))
+    with-promise (w .before .before .before .args .s) (simp (passed (width-is (w .before)) (w .if1 .left), failed (height-is (c .before)) (c .if2 .taken)))
 
 -- what is known once both pass and the materials are looked up
 module _ (c : tie.After-look-up) where
@@ -80,7 +81,7 @@ returns-3 : tie.Need-returns-3
 unfolding accepted
 returns-3 c =
     let a = c .before .before .before in
-    simp (width-ok a, height-ok a, sym (materials-are a) ∙ c .before .k .given .1)
+    with-promise (s a) (simp (width-ok a, height-ok a, sym (materials-are a) ∙ c .before .k .given .1))
 
 returns-4 : tie.Need-returns-4
 unfolding accepted
@@ -89,7 +90,7 @@ returns-4 c =
     let a = m .before .before .before .before in
     let b = c .before .before .before .magnitude .ensures ∙ ap natAbs (field (s a .width) (c .before .before .before .before .struct-told5 .given .1 .0 .1)) in
     let t = c .before .magnitude2 .ensures ∙ ap natAbs (field (s a .height) (c .before .before .struct-told6 .given .1 .1 .0 .1)) in
-    simp (width-ok a, height-ok a, sym (materials-are a) ∙ m .before .before .m .given .1, c .layers-tested .ensures, b, t)
+    with-promise (s a) (simp (width-ok a, height-ok a, sym (materials-are a) ∙ m .before .before .m .given .1, c .layers-tested .ensures, b, t))
 
 pub accept-spec : {M : Type 1} → statement M
 accept-spec =

@@ -19,11 +19,11 @@ load-refusal-requires c κs = search needs
 
 returns : tie.Need-returns
 unfolding refusalOf
-returns c = simp (sym (c .before .before .before .accept .ensures) ∙ c .before .k .given .1)
+returns c = simp (sym (c .before .before .before .accept .ensures .0) ∙ c .before .k .given .1)
 
 returns-2 : tie.Need-returns-2
 unfolding refusalOf
-returns-2 c = simp (sym (c .before .before .before .accept .ensures) ∙ c .before .enum-told .given .1, c .load-refusal .ensures)
+returns-2 c = simp (sym (c .before .before .before .accept .ensures .0) ∙ c .before .enum-told .given .1, c .load-refusal .ensures)
 
 pub refusal-spec : {M : Type 1} → statement M
 refusal-spec =

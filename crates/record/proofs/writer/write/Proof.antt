@@ -30,7 +30,7 @@ tests-passed : (c : tie.Else1) → refusalOf (counted (c .before .before .before
 tests-passed c = sym (c .before .refusal .ensures) ∙ c .if1 .left
 
 few-layers : (c : tie.Else1) → c .before .before .before .args .s .count ≤ 16
-few-layers c = let a = c .before .before .before .args in all-passed (counted (a .s)) (a .l) (tests-passed c) .few
+few-layers c = let a = c .before .before .before .args in all-passed (a .s) (a .l) (tests-passed c) .few
 
 map-of-requires : tie.Need-map-of-requires
 map-of-requires c κs = few-layers c
