@@ -68,6 +68,10 @@ salwoerk_reading salwoerk_read(const uint8_t *bytes, size_t length);
 typedef struct { uint8_t refusal; size_t length; } salwoerk_written;
 salwoerk_written salwoerk_write(salwoerk_section section, salwoerk_load load, uint8_t *buffer, size_t length);
 
+/* The list of the records in the input, back to back: a line for each, without the header line. Answers the number of bytes written. Where
+ * the buffer is shorter than 12 bytes for each byte of input and 48, nothing is written and 0 is answered. */
+size_t salwoerk_list(const uint8_t *input, size_t input_length, uint8_t *buffer, size_t length);
+
 #ifdef __cplusplus
 }
 #endif

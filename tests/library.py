@@ -236,10 +236,12 @@ def compare_read_back(tally, rng, engine, sample):
 
 
 def compare_list(tally, engine, run):
-    """The list's text; 01 gives a line at most 100 bytes."""
-    room = 100 * (len(run.data) // 4 + 3)
-    tally.compare(f"List, {run.label}", run.data[:400].hex(),
-                  second.list_text(run.data).encode(), engine.list(run.data, room))
+    """The list's text without its first line; none where the buffer is too short."""
+    room = 12 * len(run.data) + 48
+    lines = second.list_text(run.data).encode()[len(second.HEADER):]
+    for given, expected in ((room, lines), (room - 1, b"")):
+        tally.compare(f"List, room {given}, {run.label}", run.data[:400].hex(),
+                      expected, engine.list(run.data, given))
 
 
 SAMPLE_COMPARISONS = (

@@ -13,7 +13,8 @@ ghost use Rattle.clauses.specs.Check.{checkOf, listed};
 ghost use Rattle.equilibrium.specs.Section.{counted};
 ghost use Rattle.record.specs.Read.{readOf};
 ghost use Rattle.record.specs.Write.{writtenOf, bufferOf};
-ghost use Rattle.engine.specs.Answers.{depthAnswer, momentAnswer};
+ghost use Rattle.listing.specs.Buffer.{Put};
+ghost use Rattle.engine.specs.Answers.{depthAnswer, momentAnswer, listText};
 
 // The refusal, 0 for none, and the depth in tenths of a millimetre.
 #[repr(C)]
@@ -81,4 +82,20 @@ pub extern "C" fn salwoerk_write(s: Section, l: Load, buffer: &mut [u8]) -> Writ
     ensures lent { λ _. ⌜ now (buffer .exit) ≡ bufferOf (counted s) l (now (buffer .entry)) ⌝ }
 {
     record::writer::write(s, l, buffer)
+}
+
+// The lines of the list of an input's records, without the first line: how many bytes they are. Where the buffer is shorter than
+// 12 bytes for each byte of input and 48, it is left as it is and 0 is answered: a list can be so long.
+#[no_mangle]
+pub extern "C" fn salwoerk_list(input: &[u8], out: &mut [u8]) -> usize
+    ensures { λ r. ⌜ Put (now (out .entry)) 0 (listText (now (input .entry)) (now (out .entry))) (now (out .exit)) r ⌝ }
+{
+    let room = out.len();
+    if room < 48 {
+        return 0;
+    }
+    if (room - 48) / 12 < input.len() {
+        return 0;
+    }
+    listing::list(input, out)
 }

@@ -2,7 +2,6 @@
 use mathlib.Core.Path.{_≡_, refl, sym, ap, ap₂, _∙_}
 use mathlib.Core.List.{List, [], _∷_, _++_}
 use Prim.Native.Nat.{ℕ, suc, _+_, _≤_, _<_}
-use native.Mathlib.Nat.{add-zero, add-assoc}
 use native.Mathlib.Numerals.{add-one}
 use native.Mathlib.Omega.{arith}
 use lib.ListN.{length, take, drop, set, length-append}

@@ -2,3 +2,4 @@ pub mod Decimal
 pub mod Finishing
 pub mod Following
 pub mod Longest
+pub mod Seen

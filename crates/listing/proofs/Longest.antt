@@ -1,8 +1,8 @@
 -- How long a line can be. Assumes nothing.
-use mathlib.Core.Path.{_≡_, refl, sym, ap, _∙_}
+use mathlib.Core.Path.{_≡_, refl, ap, _∙_}
 use mathlib.Core.Bool.{Bool, true, false, cond}
-use mathlib.Core.List.{List, [], _∷_, _++_}
-use Prim.Native.Nat.{ℕ, suc, _+_, _*_, _^_, _≤_, _<_}
+use mathlib.Core.List.{List}
+use Prim.Native.Nat.{ℕ, _*_, _^_, _≤_, _<_}
 use native.Mathlib.Nat.{lt-of-lt-of-le}
 use native.Mathlib.Omega.{arith}
 use borrow.Author.Tests.{eqb-true}
@@ -13,7 +13,7 @@ use Rattle.clauses.specs.declared.Listed.{Listed}
 use Rattle.clauses.specs.Check.{refused, listed, checkOf}
 use Rattle.record.specs.Read.{readOf}
 use Rattle.listing.specs.Text.{natural, integer}
-use Rattle.listing.specs.Line.{newline, spaced, words, line}
+use Rattle.listing.specs.Line.{line}
 use Rattle.listing.specs.Records.{ends, answerOf}
 use Rattle.listing.specs.Buffer.{roomFor}
 use Rattle.listing.proofs.Following.{span}

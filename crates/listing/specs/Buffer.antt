@@ -3,9 +3,7 @@ use Prim.Native.Nat.{ℕ, _+_, _*_}
 use mathlib.Core.List.{List}
 use mathlib.Core.Path.{_≡_}
 use lib.ListN.{length}
-use Rattle.clauses.specs.declared.Listed.{Listed}
 use Rattle.record.specs.Bytes.{placed}
-use Rattle.listing.specs.declared.Entry.{Entry}
 
 -- The buffer xs has become ys: the text stands in it from the place `at` on, up to the place `next`, and no other byte
 -- has changed.
@@ -17,20 +15,3 @@ pub record Put (xs : List ℕ) (at : ℕ) (text ys : List ℕ) (next : ℕ) : Ty
 -- and at most 252; and the list may end with the line of a record that has only its first bytes.
 abbrev pub roomFor : ℕ → ℕ
 roomFor n = 12 * n + 48
-
--- the values of a line as the code holds them
-abbrev pub listedOf : Entry → Listed
-listedOf a =
-    record {
-      refusal = a .refusal;
-      u = a .u;
-      mrd = a .mrd;
-      vrd = a .vrd;
-      dm = a .dm;
-      area = a .area;
-      v1 = a .v1;
-      v2 = a .v2;
-      v3 = a .v3;
-      v4 = a .v4;
-      v5 = a .v5;
-    }

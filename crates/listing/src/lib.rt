@@ -3,8 +3,8 @@ pub mod entries;
 pub mod line;
 pub mod text;
 
+use clauses::numbers::refused_listed;
 use entries::entry_of;
-use entries::refused_entry;
 use line::put_line;
 ghost use mathlib.Core.Path.{_≡_};
 ghost use Prim.Native.Nat.{_≤_};
@@ -13,21 +13,6 @@ ghost use Rattle.clauses.specs.Check.{refused};
 ghost use Rattle.listing.specs.Line.{line};
 ghost use Rattle.listing.specs.Records.{ends, listOf};
 ghost use Rattle.listing.specs.Buffer.{Put, roomFor};
-
-// The values of a line: refusal or 0, u, MRd, VRd,c, dm, As and the five verdicts as numbers.
-pub struct Entry {
-    pub refusal: u64,
-    pub u: u64,
-    pub mrd: i64,
-    pub vrd: u64,
-    pub dm: u64,
-    pub area: u64,
-    pub v1: u64,
-    pub v2: u64,
-    pub v3: u64,
-    pub v4: u64,
-    pub v5: u64,
-}
 
 // Does the list end after this refusal? No length is known after 20, 21 and 22.
 pub fn list_ends(refusal: u8) -> bool
@@ -66,5 +51,5 @@ pub fn list_too_long(out: &mut [u8]) -> usize
     requires { ⌜ roomFor 0 ≤ length (now out) ⌝ }
     ensures { λ r. ⌜ Put (now (out .entry)) 0 (line 0 (refused 26)) (now (out .exit)) r ⌝ }
 {
-    put_line(out, 0, 0, refused_entry(26))
+    put_line(out, 0, 0, refused_listed(26))
 }

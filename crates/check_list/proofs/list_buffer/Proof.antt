@@ -6,7 +6,7 @@ use Rattle.check_list.proofs.list_buffer.Statement.{statement}
 use Rattle.check_list.proofs.list_buffer.Tie as tie
 
 returns : tie.Need-returns
-returns c = sym (length-replicate {A = ℕ} 786480 0)
+returns c = sym (length-replicate {A = ℕ} _ 0)
 
 pub list-buffer-spec : {M : Type 1} → statement M
 list-buffer-spec = tie.close (tie.spec returns)

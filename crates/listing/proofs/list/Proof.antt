@@ -1,7 +1,7 @@
-use mathlib.Core.Path.{_≡_, refl, sym, ap, _∙_, subst}
+use mathlib.Core.Path.{_≡_, sym, ap, _∙_, subst}
 use mathlib.Core.Bool.{false}
-use mathlib.Core.List.{List, [], _∷_, _++_}
-use Prim.Native.Nat.{ℕ, suc, _+_, _-_, _*_, _^_, _≤_, _<_}
+use mathlib.Core.List.{List, [], _∷_}
+use Prim.Native.Nat.{ℕ, _+_, _-_, _*_, _≤_, _<_}
 use native.Mathlib.Omega.{arith}
 use lib.ListN.{length, drop, length-drop}
 use lib.Seq.{take-all, drop-drop}
@@ -11,7 +11,7 @@ use Rattle.record.specs.declared.Reading.{Reading}
 use Rattle.record.specs.Read.{readOf}
 use Rattle.listing.specs.Line.{line}
 use Rattle.listing.specs.Records.{ends, answerOf, listOf, lines, readings}
-use Rattle.listing.specs.Buffer.{roomFor, listedOf}
+use Rattle.listing.specs.Buffer.{roomFor}
 use Rattle.listing.proofs.Finishing.{Left, begun, next-line, finished}
 use Rattle.listing.proofs.Following.{none-left, last-one, goes-on, span}
 use Rattle.listing.proofs.Longest.{Fitting, Enough, enough}
@@ -56,7 +56,7 @@ module _ (c : tie.After-entry-of Inv-loop μ-loop) where
   bytes = drop (loop .loop .from) (now (loop .before .before .before .args .input))
 
   abbrev entry : Listed
-  entry = listedOf (c .entry-of .result)
+  entry = c .entry-of .result
 
   is-read : c .before .before .read .result ≡ readOf bytes
   is-read =

@@ -6,7 +6,7 @@ use Rattle.listing.proofs.list_ends.Statement.{statement}
 use Rattle.listing.proofs.list_ends.Tie as tie
 
 returns : tie.Need-returns
-returns c = sym (ends-yes (c .before .before .args .refusal) (c .before .if1 .left) (c .if2 .taken))
+returns c = sym (ends-yes (c .before .before .args .refusal) (omega arith) (omega arith))
 
 returns-2 : tie.Need-returns-2
 returns-2 c = sym (ends-no (c .before .args .refusal) (λ e. omega arith) (λ e. omega arith) (λ e. omega arith))

@@ -1,5 +1,5 @@
 -- `listing::entries::entry_of` meets its contract. Assumes nothing.
-use mathlib.Core.Path.{_≡_, refl, sym, ap, _∙_}
+use mathlib.Core.Path.{_≡_, ap, _∙_}
 use mathlib.Core.Bool.{Bool, true, false, cond}
 use lib.Dec.{eqb}
 use Rattle.record.specs.declared.Reading.{Reading}
@@ -13,11 +13,11 @@ use Rattle.listing.proofs.entries.entry_of.Tie as tie
 check-section-requires : tie.Need-check-section-requires
 check-section-requires c κs = search needs
 
-checked-entry-requires : tie.Need-checked-entry-requires
-checked-entry-requires c κs = search needs
+checked-listed-requires : tie.Need-checked-listed-requires
+checked-listed-requires c κs = search needs
 
-refused-entry-requires : tie.Need-refused-entry-requires
-refused-entry-requires c κs = search needs
+refused-listed-requires : tie.Need-refused-listed-requires
+refused-listed-requires c κs = search needs
 
 -- what is answered of a reading, where the test of its refusal says so
 by-refusal : (r : Reading) (t : Bool) → eqb (r .refusal) 0 ≡ t → cond t (listed (checkOf (r .section) (r .load))) (refused (r .refusal)) ≡ answerOf r
@@ -28,17 +28,17 @@ returns c =
     let k = c .before in
     let f = k .before .before .before in
     let r = f .before .before .args .reading in
-    c .checked-entry .ensures ∙ ap listed (k .check-section .ensures .0) ∙ by-refusal r true (eq-eqb _ 0 (f .if1 .taken))
+    c .checked-listed .ensures ∙ ap listed (k .check-section .ensures .0) ∙ by-refusal r true (eq-eqb _ 0 (f .if1 .taken))
 
 returns-2 : tie.Need-returns-2
-returns-2 c = c .refused-entry .ensures ∙ by-refusal (c .before .before .before .args .reading) false (ne-eqb _ 0 (c .before .if1 .left))
+returns-2 c = c .refused-listed .ensures ∙ by-refusal (c .before .before .before .args .reading) false (ne-eqb _ 0 (c .before .if1 .left))
 
 pub entry-of-spec : {M : Type 1} → statement M
 entry-of-spec =
     tie.close
     (tie.spec
     check-section-requires
-    checked-entry-requires
-    refused-entry-requires
+    checked-listed-requires
+    refused-listed-requires
     returns
     returns-2)

@@ -1,238 +1,131 @@
--- `listing::line::put_line` meets its contract: after each word, writing what is left of the line finishes it. Assumes nothing.
-use mathlib.Core.Path.{_≡_, sym, ap}
-use mathlib.Core.List.{List, [], _∷_}
+-- `listing::line::put_line` meets its contract: after each part, writing what is left of the line finishes it. Assumes nothing.
+use mathlib.Core.Path.{_≡_, refl, ap, _∙_}
+use mathlib.Core.List.{List, [], _∷_, _++_, append-assoc, map}
 use Prim.Native.Nat.{ℕ}
 use lib.IntN.{ℤ}
-use lib.ListN.{length, drop}
 use denote.Ref.{now}
 use borrow.Author.Needs.{needs}
 use Rattle.arith.proofs.Machine.{field}
+use Rattle.clauses.specs.declared.Listed.{Listed}
 use Rattle.listing.specs.Text.{natural, integer}
-use Rattle.listing.specs.Line.{newline, spaced, words, line}
-use Rattle.listing.specs.Buffer.{listedOf}
+use Rattle.listing.specs.Line.{newline, spaced, line}
 use Rattle.listing.proofs.Finishing.{Left, begun, next-in, finished, has-room, same-text}
 use Rattle.listing.proofs.line.put_line.Statement.{statement}
 use Rattle.listing.proofs.line.put_line.Tie as tie
 
--- the line from the word i on
-abbrev from : ℕ → tie.Start → List ℕ
-from i s = spaced (drop i (words (listedOf (s .args .a)))) newline
+-- ---- the parts of a line
+before-it : (ws : List (List ℕ)) (end : List ℕ) → spaced ws [] ++ end ≡ spaced ws end
+before-it [] end = refl
+before-it (w ∷ ws) end = ap (λ (l : List ℕ). 32 ∷ l) (append-assoc w (spaced ws []) end ∙ ap (λ (l : List ℕ). w ++ l) (before-it ws end))
 
--- `left` is left once the buffer is ys and the place j
+module _ (a : Listed) where
+  abbrev first : List (List ℕ)
+  first = map natural (a .refusal ∷ a .u ∷ [])
+
+  abbrev others : List (List ℕ)
+  others = map natural (a .vrd ∷ a .dm ∷ a .area ∷ a .v1 ∷ a .v2 ∷ a .v3 ∷ a .v4 ∷ a .v5 ∷ [])
+
+  abbrev leading : List ℕ
+  leading = spaced first []
+
+  abbrev signed : List ℕ
+  signed = 32 ∷ integer (a .mrd)
+
+  abbrev trailing : List ℕ
+  trailing = spaced others []
+
+  abbrev after-leading : List ℕ
+  after-leading = signed ++ (trailing ++ newline)
+
+  parts : (k : ℕ) → natural k ++ (leading ++ after-leading) ≡ line k a
+  unfolding line
+  parts k =
+      ap (λ (l : List ℕ). natural k ++ (leading ++ (signed ++ l))) (before-it others newline)
+      ∙ ap (λ (l : List ℕ). natural k ++ l) (before-it first (signed ++ spaced others newline))
+
+-- ---- the stages: `left` is left once the buffer is ys and the place j
+abbrev entry : tie.Start → Listed
+entry s = s .args .a
+
 abbrev Stage : tie.Start → List ℕ → ℕ → List ℕ → Type 0
-Stage s ys j left = Left (now (s .args .out)) (s .args .at) (line (s .args .number) (listedOf (s .args .a))) ys j left
+Stage s ys j left = Left (now (s .args .out)) (s .args .at) (line (s .args .number) (entry s)) ys j left
 
--- the number
+begun-here : (s : tie.Start) → Stage s (now (s .args .out)) (s .args .at) (natural (s .args .number) ++ (leading (entry s) ++ after-leading (entry s)))
+begun-here s = rw (parts (entry s) (s .args .number)) (begun _ _ _)
+
 put-natural-requires : tie.Need-put-natural-requires
-unfolding line
-put-natural-requires c κs = let s = c .before .before in has-room (natural (s .args .number)) (from 0 s) (s .pre) (begun (now (s .args .out)) _ _)
+put-natural-requires c κs = let s = c .before .before in has-room (natural (s .args .number)) (leading (entry s) ++ after-leading (entry s)) (s .pre) (begun-here s)
 
-abbrev start0 : tie.After-put-natural → tie.Start
-start0 c = c .before .before .before
+abbrev start1 : tie.After-put-natural → tie.Start
+start1 c = c .before .before .before
 
-stage0 : (c : tie.After-put-natural) → Stage (start0 c) (c .put-natural .last .0) (c .put-natural .result) (from 0 (start0 c))
-unfolding line
-stage0 c = next-in (from 0 (start0 c)) (start0 c .pre) (begun _ _ _) (c .put-natural .ensures)
+stage1 : (c : tie.After-put-natural) → Stage (start1 c) (c .put-natural .last .0) (c .put-natural .result) (leading (entry (start1 c)) ++ after-leading (entry (start1 c)))
+stage1 c = next-in (leading (entry (start1 c)) ++ after-leading (entry (start1 c))) (start1 c .pre) (begun-here (start1 c)) (c .put-natural .ensures)
 
--- refusal
-put-word-requires : tie.Need-put-word-requires
-put-word-requires c κs =
-    let p = c .before .before .before in
-    let s = start0 p in
-    has-room (32 ∷ natural (s .args .a .refusal)) (from 1 s) (s .pre) (stage0 p)
+slice-aggregate-put-words : tie.Need-slice-aggregate-put-words
+slice-aggregate-put-words c = search needs
 
-abbrev start1 : tie.After-put-word → tie.Start
-start1 c = start0 (c .before .before .before .before)
+put-words-requires : tie.Need-put-words-requires
+put-words-requires c κs =
+    let p = c .before .before .before .before in
+    has-room (leading (entry (start1 p))) (after-leading (entry (start1 p))) (start1 p .pre) (stage1 p)
 
-stage1 : (c : tie.After-put-word) → Stage (start1 c) (c .put-word .last .0) (c .put-word .result) (from 1 (start1 c))
-stage1 c =
-    let s = start1 c in
-    next-in (from 1 s) (s .pre) (stage0 (c .before .before .before .before)) (c .put-word .ensures)
+abbrev start2 : tie.After-put-words → tie.Start
+start2 c = start1 (c .before .before .before .before .before)
 
--- u
-put-word-requires-2 : tie.Need-put-word-requires-2
-put-word-requires-2 c κs =
-    let p = c .before .before .before in
-    let s = start1 p in
-    has-room (32 ∷ natural (s .args .a .u)) (from 2 s) (s .pre) (stage1 p)
+stage2 : (c : tie.After-put-words) → Stage (start2 c) (c .put-words .last .0) (c .put-words .result) (after-leading (entry (start2 c)))
+stage2 c = next-in (after-leading (entry (start2 c))) (start2 c .pre) (stage1 (c .before .before .before .before .before)) (c .put-words .ensures)
 
-abbrev start2 : tie.After-put-word2 → tie.Start
-start2 c = start1 (c .before .before .before .before)
-
-stage2 : (c : tie.After-put-word2) → Stage (start2 c) (c .put-word2 .last .0) (c .put-word2 .result) (from 2 (start2 c))
-stage2 c =
-    let s = start2 c in
-    next-in (from 2 s) (s .pre) (stage1 (c .before .before .before .before)) (c .put-word2 .ensures)
-
--- mrd
 put-signed-word-requires : tie.Need-put-signed-word-requires
 put-signed-word-requires c κs =
     let p = c .before .before .before .before in
-    let s = start2 p in
-    rw (field (s .args .a .mrd) (c .struct-told .given .1 .1 .0 .1)) (has-room (32 ∷ integer (s .args .a .mrd)) (from 3 s) (s .pre) (stage2 p))
+    let a = start2 p .args .a in
+    rw (field (a .mrd) (c .struct-told .given .1 .1 .0 .1)) (has-room (signed a) (trailing a ++ newline) (start2 p .pre) (stage2 p))
 
 abbrev start3 : tie.After-put-signed-word → tie.Start
 start3 c = start2 (c .before .before .before .before .before)
 
-stage3 : (c : tie.After-put-signed-word) → Stage (start3 c) (c .put-signed-word .last .0) (c .put-signed-word .result) (from 3 (start3 c))
+stage3 : (c : tie.After-put-signed-word) → Stage (start3 c) (c .put-signed-word .last .0) (c .put-signed-word .result) (trailing (entry (start3 c)) ++ newline)
 stage3 c =
-    let s = start3 c in
-    next-in (from 3 s) (s .pre) (stage2 (c .before .before .before .before .before)) (same-text (ap (λ (z : ℤ). 32 ∷ integer z) (field (s .args .a .mrd) (c .before .struct-told .given .1 .1 .0 .1))) (c .put-signed-word .ensures))
+    next-in (trailing (entry (start3 c)) ++ newline) (start3 c .pre) (stage2 (c .before .before .before .before .before))
+    (same-text (ap (λ (z : ℤ). 32 ∷ integer z) (field (start3 c .args .a .mrd) (c .before .struct-told .given .1 .1 .0 .1))) (c .put-signed-word .ensures))
 
--- vrd
-put-word-requires-3 : tie.Need-put-word-requires-3
-put-word-requires-3 c κs =
-    let p = c .before .before .before in
-    let s = start3 p in
-    has-room (32 ∷ natural (s .args .a .vrd)) (from 4 s) (s .pre) (stage3 p)
+slice-aggregate-put-words-2 : tie.Need-slice-aggregate-put-words-2
+slice-aggregate-put-words-2 c = search needs
 
-abbrev start4 : tie.After-put-word3 → tie.Start
-start4 c = start3 (c .before .before .before .before)
+put-words-requires-2 : tie.Need-put-words-requires-2
+put-words-requires-2 c κs =
+    let p = c .before .before .before .before in
+    has-room (trailing (entry (start3 p))) newline (start3 p .pre) (stage3 p)
 
-stage4 : (c : tie.After-put-word3) → Stage (start4 c) (c .put-word3 .last .0) (c .put-word3 .result) (from 4 (start4 c))
-stage4 c =
-    let s = start4 c in
-    next-in (from 4 s) (s .pre) (stage3 (c .before .before .before .before)) (c .put-word3 .ensures)
+abbrev start4 : tie.After-put-words2 → tie.Start
+start4 c = start3 (c .before .before .before .before .before)
 
--- dm
-put-word-requires-4 : tie.Need-put-word-requires-4
-put-word-requires-4 c κs =
-    let p = c .before .before .before in
-    let s = start4 p in
-    has-room (32 ∷ natural (s .args .a .dm)) (from 5 s) (s .pre) (stage4 p)
+stage4 : (c : tie.After-put-words2) → Stage (start4 c) (c .put-words2 .last .0) (c .put-words2 .result) newline
+stage4 c = next-in newline (start4 c .pre) (stage3 (c .before .before .before .before .before)) (c .put-words2 .ensures)
 
-abbrev start5 : tie.After-put-word4 → tie.Start
-start5 c = start4 (c .before .before .before .before)
-
-stage5 : (c : tie.After-put-word4) → Stage (start5 c) (c .put-word4 .last .0) (c .put-word4 .result) (from 5 (start5 c))
-stage5 c =
-    let s = start5 c in
-    next-in (from 5 s) (s .pre) (stage4 (c .before .before .before .before)) (c .put-word4 .ensures)
-
--- area
-put-word-requires-5 : tie.Need-put-word-requires-5
-put-word-requires-5 c κs =
-    let p = c .before .before .before in
-    let s = start5 p in
-    has-room (32 ∷ natural (s .args .a .area)) (from 6 s) (s .pre) (stage5 p)
-
-abbrev start6 : tie.After-put-word5 → tie.Start
-start6 c = start5 (c .before .before .before .before)
-
-stage6 : (c : tie.After-put-word5) → Stage (start6 c) (c .put-word5 .last .0) (c .put-word5 .result) (from 6 (start6 c))
-stage6 c =
-    let s = start6 c in
-    next-in (from 6 s) (s .pre) (stage5 (c .before .before .before .before)) (c .put-word5 .ensures)
-
--- v1
-put-word-requires-6 : tie.Need-put-word-requires-6
-put-word-requires-6 c κs =
-    let p = c .before .before .before in
-    let s = start6 p in
-    has-room (32 ∷ natural (s .args .a .v1)) (from 7 s) (s .pre) (stage6 p)
-
-abbrev start7 : tie.After-put-word6 → tie.Start
-start7 c = start6 (c .before .before .before .before)
-
-stage7 : (c : tie.After-put-word6) → Stage (start7 c) (c .put-word6 .last .0) (c .put-word6 .result) (from 7 (start7 c))
-stage7 c =
-    let s = start7 c in
-    next-in (from 7 s) (s .pre) (stage6 (c .before .before .before .before)) (c .put-word6 .ensures)
-
--- v2
-put-word-requires-7 : tie.Need-put-word-requires-7
-put-word-requires-7 c κs =
-    let p = c .before .before .before in
-    let s = start7 p in
-    has-room (32 ∷ natural (s .args .a .v2)) (from 8 s) (s .pre) (stage7 p)
-
-abbrev start8 : tie.After-put-word7 → tie.Start
-start8 c = start7 (c .before .before .before .before)
-
-stage8 : (c : tie.After-put-word7) → Stage (start8 c) (c .put-word7 .last .0) (c .put-word7 .result) (from 8 (start8 c))
-stage8 c =
-    let s = start8 c in
-    next-in (from 8 s) (s .pre) (stage7 (c .before .before .before .before)) (c .put-word7 .ensures)
-
--- v3
-put-word-requires-8 : tie.Need-put-word-requires-8
-put-word-requires-8 c κs =
-    let p = c .before .before .before in
-    let s = start8 p in
-    has-room (32 ∷ natural (s .args .a .v3)) (from 9 s) (s .pre) (stage8 p)
-
-abbrev start9 : tie.After-put-word8 → tie.Start
-start9 c = start8 (c .before .before .before .before)
-
-stage9 : (c : tie.After-put-word8) → Stage (start9 c) (c .put-word8 .last .0) (c .put-word8 .result) (from 9 (start9 c))
-stage9 c =
-    let s = start9 c in
-    next-in (from 9 s) (s .pre) (stage8 (c .before .before .before .before)) (c .put-word8 .ensures)
-
--- v4
-put-word-requires-9 : tie.Need-put-word-requires-9
-put-word-requires-9 c κs =
-    let p = c .before .before .before in
-    let s = start9 p in
-    has-room (32 ∷ natural (s .args .a .v4)) (from 10 s) (s .pre) (stage9 p)
-
-abbrev start10 : tie.After-put-word9 → tie.Start
-start10 c = start9 (c .before .before .before .before)
-
-stage10 : (c : tie.After-put-word9) → Stage (start10 c) (c .put-word9 .last .0) (c .put-word9 .result) (from 10 (start10 c))
-stage10 c =
-    let s = start10 c in
-    next-in (from 10 s) (s .pre) (stage9 (c .before .before .before .before)) (c .put-word9 .ensures)
-
--- v5
-put-word-requires-10 : tie.Need-put-word-requires-10
-put-word-requires-10 c κs =
-    let p = c .before .before .before in
-    let s = start10 p in
-    has-room (32 ∷ natural (s .args .a .v5)) (from 11 s) (s .pre) (stage10 p)
-
-abbrev start11 : tie.After-put-word10 → tie.Start
-start11 c = start10 (c .before .before .before .before)
-
-stage11 : (c : tie.After-put-word10) → Stage (start11 c) (c .put-word10 .last .0) (c .put-word10 .result) (from 11 (start11 c))
-stage11 c =
-    let s = start11 c in
-    next-in (from 11 s) (s .pre) (stage10 (c .before .before .before .before)) (c .put-word10 .ensures)
-
--- the newline
 put-byte-requires : tie.Need-put-byte-requires
-put-byte-requires c κs =
-    let p = c .before .before .before in
-    has-room (10 ∷ []) [] (start11 p .pre) (stage11 p)
-
-abbrev start12 : tie.After-put-byte → tie.Start
-start12 c = start11 (c .before .before .before .before)
-
-stage12 : (c : tie.After-put-byte) → Stage (start12 c) (c .put-byte .last .0) (c .put-byte .result) []
-stage12 c = next-in [] (start12 c .pre) (stage11 (c .before .before .before .before)) (c .put-byte .ensures)
+put-byte-requires c κs = let p = c .before .before .before in has-room newline [] (start4 p .pre) (stage4 p)
 
 same-length : tie.Need-same-length
-same-length c = stage12 (c .before .before) .size
+same-length c = search needs
 
 returns : tie.Need-returns
-returns c = finished (stage12 (c .before .before))
+returns c =
+    let b = c .before .before in
+    let p = b .before .before .before .before in
+    finished (next-in [] (start4 p .pre) (stage4 p) (b .put-byte .ensures))
 
 pub put-line-spec : {M : Type 1} → statement M
 put-line-spec =
     tie.close
     (tie.spec
     put-natural-requires
-    put-word-requires
-    put-word-requires-2
+    slice-aggregate-put-words
+    put-words-requires
     put-signed-word-requires
-    put-word-requires-3
-    put-word-requires-4
-    put-word-requires-5
-    put-word-requires-6
-    put-word-requires-7
-    put-word-requires-8
-    put-word-requires-9
-    put-word-requires-10
+    slice-aggregate-put-words-2
+    put-words-requires-2
     put-byte-requires
     same-length
     returns)

@@ -1,13 +1,10 @@
 -- `listing::text::put_natural`, which calls itself, meets its contract. The measure is the number. Assumes nothing.
-use mathlib.Core.Path.{_≡_, refl, sym, ap, _∙_}
-use mathlib.Core.List.{List, [], _∷_}
-use Prim.Native.Nat.{ℕ, _+_, _/_, _%_, _≤_, _<_}
+use mathlib.Core.Path.{sym, ap, _∙_}
+use Prim.Native.Nat.{ℕ, _+_, _<_}
 use native.Mathlib.Omega.{arith}
 use lib.ListN.{length}
-use denote.Ref.{now}
 use borrow.Fn.Kinds.{In}
 use borrow.Fn.PlainCycle.{Measures, is, falls, and}
-use Rattle.listing.specs.Text.{natural}
 use Rattle.listing.proofs.Decimal.{natural-one, natural-more, length-more}
 use Rattle.listing.proofs.Finishing.{same-text, then}
 use Rattle.listing.proofs.text.put_natural.Reads as put-natural

@@ -1,7 +1,6 @@
 -- `listing::text::put_byte` meets its contract. Assumes nothing.
 use native.Mathlib.Omega.{arith}
 use borrow.Author.Needs.{needs}
-use denote.Ref.{now}
 use Rattle.listing.proofs.Finishing.{stored}
 use Rattle.listing.proofs.text.put_byte.Statement.{statement}
 use Rattle.listing.proofs.text.put_byte.Tie as tie
