@@ -87,6 +87,10 @@ module _ (p : ℕ → Bool) where
       let l : greatest p m < mid = greatest-lt never m mid z e in
       record { low = c .low; high = omega arith; most = omega arith }
 
+  -- more candidates than need be
+  pub wider : {m lo hi : ℕ} (high : ℕ) → hi ≤ high → high ≤ m → Candidates m lo hi → Candidates m lo high
+  wider high h l c = record { low = c .low; high = omega arith; most = l }
+
   -- one remains
   pub found : {m lo hi : ℕ} → hi ≤ lo → Candidates m lo hi → lo ≡ greatest p m
   found h c = omega arith

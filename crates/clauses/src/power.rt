@@ -15,21 +15,22 @@ fn power_at_most(e: u64, a: u64, y: u64, k: u64) -> bool
     }
 }
 
-// The greatest k up to `most` with kᵉ·a at most y, by halving.
+// The greatest k up to `most` with kᵉ·a at most y, by halving: it lies from `k` to `k + span`, and the trial is in the middle. The
+// span is halved in the same way whether the trial passes or not: the number of trials then follows from `most` alone, and the
+// compiler lays them out one after the other without a branch.
 pub fn greatest_power(e: u64, a: u64, y: u64, most: u64) -> u64
     requires { ⌜ PowerFits e a most ⌝ }
     ensures { λ x. ⌜ x ≡ greatest (powerAtMost e a y) most ⌝ }
 {
-    let mut lo: u64 = 0;
-    let mut hi = most;
-    while lo < hi {
-        // the mean, rounded up
-        let mid = hi - (hi - lo) / 2;
-        if power_at_most(e, a, y, mid) {
-            lo = mid;
-        } else {
-            hi = mid - 1;
+    let mut k: u64 = 0;
+    let mut span = most;
+    while 0 < span {
+        let rest = span / 2;
+        let trial = k + (span - rest);
+        span = rest;
+        if power_at_most(e, a, y, trial) {
+            k = trial;
         }
     }
-    lo
+    k
 }

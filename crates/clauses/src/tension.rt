@@ -31,7 +31,7 @@ fn tension_area(u: u64, l: Layer) -> u64
     }
 }
 
-// The one loop over the layers. It reads the place itself: `layer_at` would copy the section for each layer.
+// The one loop over the layers. It reads the places in a local: `layer_at` would copy the section for each layer.
 fn layer_sums(s: Section, u: u64) -> Sums
     requires { ⌜ Counts s ⌝ }
     ensures { λ r. ⌜ (r .area ≡ As u (layersOf s)) × ((r .moment ≡ firstMoment (tensionLayers u (layersOf s))) × (r .all ≡ areaOf (layersOf s))) ⌝ }
@@ -39,9 +39,11 @@ fn layer_sums(s: Section, u: u64) -> Sums
     let mut area: u64 = 0;
     let mut moment: u64 = 0;
     let mut all: u64 = 0;
+    let layers = s.layers;
+    let count = s.count;
     let mut i: usize = 0;
-    while i < s.count {
-        let l = s.layers[i];
+    while i < count {
+        let l = layers[i];
         let a = tension_area(u, l);
         area += a;
         moment += a * (l.depth as u64);

@@ -5,7 +5,7 @@ use mathlib.Core.List.{List, [], _∷_}
 use mathlib.Core.Path.{_≡_, refl, sym, ap, ap₂, _∙_}
 use native.Mathlib.Omega.{arith}
 use lib.Dec.{leb, ltb}
-use lib.ListN.{length, take, drop, set}
+use lib.ListN.{length, take, drop, set, getD}
 use borrow.Author.Tests.{le-leb, lt-ltb, leb-true, ltb-true}
 use Rattle.arith.proofs.Test.{both-true}
 use Rattle.equilibrium.specs.declared.Layer.{Layer}
@@ -24,6 +24,13 @@ place h zero (suc n) (k ∷ places) {ys} {l} e = let same : k ≡ l = cc in rw s
 place h (suc i) zero places e = absurd (let z : _≡_ {A = ℕ} 0 1 = cc in omega arith)
 place h (suc i) (suc n) [] e = absurd (let z : _≡_ {A = ℕ} 0 1 = cc in omega arith)
 place h (suc i) (suc n) (k ∷ places) e = ap (λ t. turnedLayer h k ∷ t) (place h i n places e)
+
+-- which is still as it was
+pub still : (h i : ℕ) (places : List Layer) (none : Layer) → getD (turnedFirst h i places) i none ≡ getD places i none
+unfolding turnedFirst
+still h zero places none = refl
+still h (suc i) [] none = refl
+still h (suc i) (l ∷ places) none = still h i places none
 
 -- the counted layers of the section turned over are the layers turned over
 take-turned : (h n : ℕ) (places : List Layer) → take n (turnedFirst h n places) ≡ turned h (take n places)

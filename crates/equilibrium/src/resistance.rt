@@ -57,9 +57,11 @@ fn steel_resistance(x: Design, s: Section, u: u64) -> i64
     ensures { λ r. ⌜ r ≡ steelResistance x (layersOf s) u ⌝ }
 {
     let mut sum: i64 = 0;
+    let layers = s.layers;
+    let count = s.count;
     let mut i: usize = 0;
-    while i < s.count {
-        let l = s.layers[i];
+    while i < count {
+        let l = layers[i];
         sum += layer_moment(x, l, u);
         i += 1;
     }

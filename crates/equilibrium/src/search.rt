@@ -21,9 +21,11 @@ fn fill_columns(x: Design, s: Section, starts: &mut [i64; 16], shares: &mut [i64
     requires { ⌜ Usable x (s .count) (layersOf s) × ((length (now starts) ≡ 16) × (length (now shares) ≡ 16)) ⌝ }
     ensures { λ r. ⌜ Columns x (s .count) (layersOf s) (now (starts .exit)) (now (shares .exit)) ⌝ }
 {
+    let layers = s.layers;
+    let count = s.count;
     let mut i: usize = 0;
-    while i < s.count {
-        let l = s.layers[i];
+    while i < count {
+        let l = layers[i];
         starts[i] = (1000 * x.m.e * (l.depth as u64)) as i64;
         shares[i] = (800 * (l.area as u64)) as i64;
         i += 1;

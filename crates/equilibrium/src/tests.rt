@@ -13,7 +13,8 @@ ghost use Rattle.equilibrium.specs.Section.{layersOf, counted, all, dept
 ghost use Rattle.equilibrium.specs.Usable.{PromisedSection};
 ghost use Rattle.equilibrium.specs.Load.{loadRefusal, refusalOf};
 
-// The layer at a counted place. A loop that must be quick reads `s.layers[i]` itself: here all places are copied at each call.
+// The layer at a counted place. A loop that must be quick has the places in a local and reads them there: here the section is
+// copied at each call, and a loop over `s.layers[i]` makes one more copy of all its fields.
 pub fn layer_at(s: Section, i: usize) -> Layer
     requires { ⌜ (i < s .count) × (s .count ≤ 16) ⌝ }
     ensures { λ r. ⌜ drop i (layersOf s) ≡ r ∷ drop (i + 1) (layersOf s) ⌝ }
@@ -45,9 +46,11 @@ pub fn layer_tests(s: Section, h: u64) -> LayerTests
 {
     let mut depths = true;
     let mut areas = true;
+    let layers = s.layers;
+    let count = s.count;
     let mut i: usize = 0;
-    while i < s.count {
-        let l = s.layers[i];
+    while i < count {
+        let l = layers[i];
         depths = arith::both(depths, depth_ok(h, l));
         areas = arith::both(areas, area_ok(l));
         i += 1;

@@ -3,7 +3,7 @@ use Prim.Native.Nat.{ℕ, _+_, _-_, _*_, _≤_}
 use mathlib.Core.List.{[], _∷_}
 use mathlib.Core.Path.{_≡_}
 use native.Mathlib.Omega.{arith}
-use lib.ListN.{length-map, drop, getD}
+use lib.ListN.{length-map, take, drop, getD}
 use borrow.Author.Needs.{needs}
 use Rattle.equilibrium.specs.declared.Layer.{Layer}
 use Rattle.equilibrium.specs.declared.Section.{Section}
@@ -15,10 +15,10 @@ use Rattle.clauses.proofs.tension.layer_sums.Statement.{statement}
 use Rattle.clauses.proofs.tension.layer_sums.Tie as tie
 
 abbrev Inv-loop : tie.InvT-loop
-Inv-loop u s area₀ moment₀ all₀ i₀ area moment all i = (i ≤ s .count) × Summed u (layersOf s) (drop i (layersOf s)) area moment all
+Inv-loop u area₀ moment₀ all₀ layers count i₀ area moment all i = (i ≤ count) × Summed u (take count layers) (drop i (take count layers)) area moment all
 
 abbrev μ-loop : tie.MeasureT-loop
-μ-loop u s area₀ moment₀ all₀ i₀ area moment all i = s .count - i
+μ-loop u area₀ moment₀ all₀ layers count i₀ area moment all i = count - i
 
 loop-holds : tie.Need-loop-holds Inv-loop μ-loop
 loop-holds c = search needs
@@ -26,8 +26,8 @@ loop-holds c = search needs
 mul-l : tie.Need-mul-l Inv-loop μ-loop
 mul-l c = search needs
 
-element-copy-out-l : tie.Need-element-copy-out-l Inv-loop μ-loop
-element-copy-out-l c = search needs
+array-copy-out-l : tie.Need-array-copy-out-l Inv-loop μ-loop
+array-copy-out-l c = search needs
 
 tension-area-requires : tie.Need-tension-area-requires Inv-loop μ-loop
 tension-area-requires c κs = search needs
@@ -38,10 +38,10 @@ module _ (c : tie.After-tension-area Inv-loop μ-loop) where
   at = c .before .before .before
 
   abbrev s : Section
-  s = at .before .args .t1
+  s = at .before .before .args .s
 
   abbrev u : ℕ
-  u = at .before .args .u
+  u = at .before .before .args .u
 
   abbrev l : Layer
   l = getD (s .layers) (at .loop .i) noLayer
@@ -50,28 +50,28 @@ module _ (c : tie.After-tension-area Inv-loop μ-loop) where
   a = c .tension-area .result
 
   layer-is : drop (at .loop .i) (layersOf s) ≡ l ∷ drop (at .loop .i + 1) (layersOf s)
-  layer-is = next s (at .loop .i) (simp length-map at (at .before .good .0 .1 .1 .0 .1 .0 .1)) (at .before .pre .count-high) (omega arith)
+  layer-is = next s (at .loop .i) (simp length-map at (at .before .before .good .0 .1 .1 .0 .1 .0 .1)) (at .before .before .pre .count-high) (omega arith)
 
   summed : Summed u (layersOf s) (drop (at .loop .i + 1) (layersOf s)) (at .loop .area + a) (at .loop .moment + a * l .depth) (at .loop .all + l .area)
   summed = sum-step layer-is (c .tension-area .ensures) (at .loop .inv .1)
 
 add-area : tie.Need-add-area Inv-loop μ-loop
-add-area c = omega (arith, summed c .area-is, As-high (s c) (u c) (at c .before .pre))
+add-area c = omega (arith, summed c .area-is, As-high (s c) (u c) (at c .before .before .pre))
 
 cast-moment : tie.Need-cast-moment Inv-loop μ-loop
 cast-moment c = search needs
 
 mul-moment : tie.Need-mul-moment Inv-loop μ-loop
-mul-moment c = let t = c .before in omega (arith, summed t .moment-is, moment-most (s t) (u t) (at t .before .pre))
+mul-moment c = let t = c .before in omega (arith, summed t .moment-is, moment-most (s t) (u t) (at t .before .before .pre))
 
 add-moment : tie.Need-add-moment Inv-loop μ-loop
-add-moment c = let t = c .before in omega (arith, summed t .moment-is, moment-most (s t) (u t) (at t .before .pre))
+add-moment c = let t = c .before in omega (arith, summed t .moment-is, moment-most (s t) (u t) (at t .before .before .pre))
 
 cast-all : tie.Need-cast-all Inv-loop μ-loop
 cast-all c = search needs
 
 add-all : tie.Need-add-all Inv-loop μ-loop
-add-all c = let t = c .before .before in omega (arith, summed t .every-is, areaOf-high (s t) (at t .before .pre))
+add-all c = let t = c .before .before in omega (arith, summed t .every-is, areaOf-high (s t) (at t .before .before .pre))
 
 add-i : tie.Need-add-i Inv-loop μ-loop
 add-i c = search needs
@@ -86,7 +86,7 @@ returns : tie.Need-returns Inv-loop μ-loop
 unfolding total tensionLayers
 returns c =
     let at = c .before in
-    let s = at .before .args .t1 in
+    let s = at .before .before .args .s in
     let e : at .loop .i ≡ s .count = omega arith in
     let none : drop (at .loop .i) (layersOf s) ≡ [] = rw e (over (s .count) (s .layers)) in
     let done = sum-done none (at .loop .inv .1) in
@@ -100,7 +100,7 @@ layer-sums-spec =
     μ-loop
     loop-holds
     mul-l
-    element-copy-out-l
+    array-copy-out-l
     tension-area-requires
     add-area
     cast-moment

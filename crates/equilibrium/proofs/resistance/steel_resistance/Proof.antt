@@ -6,7 +6,7 @@ use mathlib.Core.Path.{_≡_, refl, sym, _∙_}
 use native.Mathlib.Omega.{arith}
 use borrow.Author.Needs.{needs}
 use lib.IntN.{pos, _+ℤ_, +ℤ-idl}
-use lib.ListN.{drop, getD, length-map}
+use lib.ListN.{take, drop, getD, length-map}
 use mir.Syntax.{w64}
 use mir.Val.{toZ}
 use Rattle.arith.specs.Integer.{Within}
@@ -22,14 +22,14 @@ use Rattle.equilibrium.proofs.resistance.steel_resistance.Statement.{st
 use Rattle.equilibrium.proofs.resistance.steel_resistance.Tie as tie
 
 abbrev Inv-loop : tie.InvT-loop
-Inv-loop x u s sum₀ i₀ sum i =
-    let ls = layersOf s in
-    (i ≤ s .count)
+Inv-loop x u sum₀ layers count i₀ sum i =
+    let ls = take count layers in
+    (i ≤ count)
     × ((toZ w64 sum +ℤ steelResistance x (drop i ls) u ≡ steelResistance x ls u)
     × Within (toZ w64 sum) (layer-bound * i))
 
 abbrev μ-loop : tie.MeasureT-loop
-μ-loop x u s sum₀ i₀ sum i = s .count - i
+μ-loop x u sum₀ layers count i₀ sum i = count - i
 
 -- the layer at i, and the sum with its moment
 module _ (c : tie.In-loop Inv-loop μ-loop) where
@@ -37,13 +37,13 @@ module _ (c : tie.In-loop Inv-loop μ-loop) where
   turn = c .before
 
   abbrev start : tie.Start Inv-loop μ-loop
-  start = turn .before
+  start = turn .before .before
 
-  here : Next (start .args .t2) (turn .loop .i)
-  here = next (start .args .t2) (turn .loop .i) (simp length-map at (start .good .1 .0 .1 .1 .0 .1 .0 .1)) (start .pre .0 .count-high) (c .loop-test .taken)
+  here : Next (start .args .s) (turn .loop .i)
+  here = next (start .args .s) (turn .loop .i) (simp length-map at (start .good .1 .0 .1 .1 .0 .1 .0 .1)) (start .pre .0 .count-high) (c .loop-test .taken)
 
-  ok : LayerOk (start .args .x .h) (getD (start .args .t2 .layers) (turn .loop .i) noLayer)
-  ok = layer-at-ok (layersOf (start .args .t2)) (turn .loop .i) (start .pre .0) here
+  ok : LayerOk (start .args .x .h) (getD (start .args .s .layers) (turn .loop .i) noLayer)
+  ok = layer-at-ok (layersOf (start .args .s)) (turn .loop .i) (start .pre .0) here
 
   abbrev sum : M
   sum = local (turn .loop .sum) refl (up-to {Y = layer-bound * 16} (turn .loop .inv .1 .1) (omega (arith, turn .loop .inv .0, start .pre .0 .count-high)))
@@ -60,8 +60,8 @@ loop-holds c = (search needs, (+ℤ-idl _, search needs))
 mul-l : tie.Need-mul-l Inv-loop μ-loop
 mul-l c = search needs
 
-element-copy-out-l : tie.Need-element-copy-out-l Inv-loop μ-loop
-element-copy-out-l c = search needs
+array-copy-out-l : tie.Need-array-copy-out-l Inv-loop μ-loop
+array-copy-out-l c = search needs
 
 layer-moment-requires : tie.Need-layer-moment-requires Inv-loop μ-loop
 layer-moment-requires c κs = let s = start (c .before) in (s .pre .0 .bounded, (s .pre .1, ok (c .before)))
@@ -93,10 +93,10 @@ returns : tie.Need-returns Inv-loop μ-loop
 unfolding steelResistance
 returns c =
     let at = c .before in
-    let s = at .before .args .t2 in
+    let s = at .before .before .args .s in
     let e : at .loop .i ≡ s .count = omega arith in
     let none : drop (at .loop .i) (layersOf s) ≡ [] = rw e (over (s .count) (s .layers)) in
-    sum-done (λ zs. steelResistance (at .before .args .x) zs (at .before .args .u)) (toZ w64 (at .loop .sum)) (at .loop .inv .1 .0) none refl
+    sum-done (λ zs. steelResistance (at .before .before .args .x) zs (at .before .before .args .u)) (toZ w64 (at .loop .sum)) (at .loop .inv .1 .0) none refl
 
 pub steel-resistance-spec : {M : Type 1} → statement M
 steel-resistance-spec =
@@ -106,7 +106,7 @@ steel-resistance-spec =
     μ-loop
     loop-holds
     mul-l
-    element-copy-out-l
+    array-copy-out-l
     layer-moment-requires
     add-sum
     add-i

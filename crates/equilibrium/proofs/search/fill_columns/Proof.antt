@@ -3,7 +3,7 @@ use Prim.Native.Nat.{ℕ, _≤_, _-_}
 use mathlib.Core.Path.{_≡_, subst}
 use native.Mathlib.Omega.{arith}
 use borrow.Author.Needs.{needs}
-use lib.ListN.{length, length-map, length-set, getD}
+use lib.ListN.{take, length, length-map, length-set, getD}
 use Rattle.arith.proofs.Machine.{nat, value}
 use Rattle.equilibrium.specs.declared.Layer.{Layer}
 use Rattle.equilibrium.specs.declared.Section.{Section}
@@ -18,20 +18,20 @@ use Rattle.equilibrium.proofs.search.fill_columns.Statement.{statement}
 use Rattle.equilibrium.proofs.search.fill_columns.Tie as tie
 
 abbrev Inv-loop : tie.InvT-loop
-Inv-loop x starts₀ shares₀ s i₀ starts shares i =
-    (i ≤ s .count) × (length starts ≡ 16) × (length shares ≡ 16) × Columns x i (layersOf s) starts shares
+Inv-loop x starts₀ shares₀ layers count i₀ starts shares i =
+    (i ≤ count) × (length starts ≡ 16) × (length shares ≡ 16) × Columns x i (take count layers) starts shares
 
 abbrev μ-loop : tie.MeasureT-loop
-μ-loop x starts₀ shares₀ s i₀ starts shares i = s .count - i
+μ-loop x starts₀ shares₀ layers count i₀ starts shares i = count - i
 
 loop-holds : tie.Need-loop-holds Inv-loop μ-loop
-loop-holds c = (omega arith, c .pre .1 .0, c .pre .1 .1, λ k h. absurd (omega arith))
+loop-holds c = (omega arith, c .before .pre .1 .0, c .before .pre .1 .1, λ k h. absurd (omega arith))
 
 mul-l : tie.Need-mul-l Inv-loop μ-loop
 mul-l c = search needs
 
-element-copy-out-l : tie.Need-element-copy-out-l Inv-loop μ-loop
-element-copy-out-l c = search needs
+array-copy-out-l : tie.Need-array-copy-out-l Inv-loop μ-loop
+array-copy-out-l c = search needs
 
 -- the numbers of the next layer
 module _ (c : tie.In-loop Inv-loop μ-loop) where
@@ -39,10 +39,10 @@ module _ (c : tie.In-loop Inv-loop μ-loop) where
   turn = c .before
 
   abbrev begin : tie.Start Inv-loop μ-loop
-  begin = turn .before
+  begin = turn .before .before
 
   abbrev s : Section
-  s = begin .args .t2
+  s = begin .args .s
 
   abbrev l : Layer
   l = getD (s .layers) (turn .loop .i) noLayer
@@ -86,8 +86,8 @@ mul-shares-2 c = omega (arith, share-most (c .before .before .before .before))
 cast-shares-2 : tie.Need-cast-shares-2 Inv-loop μ-loop
 cast-shares-2 c = omega (arith, share-most (c .before .before .before .before))
 
-mul-t8 : tie.Need-mul-t8 Inv-loop μ-loop
-mul-t8 c = search needs
+mul-t10 : tie.Need-mul-t10 Inv-loop μ-loop
+mul-t10 c = search needs
 
 element-set-from-shares-2 : tie.Need-element-set-from-shares-2 Inv-loop μ-loop
 element-set-from-shares-2 c = search needs
@@ -109,9 +109,9 @@ loop-again c =
 returns : tie.Need-returns Inv-loop μ-loop
 returns c =
     let at = c .before in
-    let s = at .before .args .t2 in
+    let s = at .before .before .args .s in
     let e : at .loop .i ≡ s .count = omega arith in
-    subst (λ (k : ℕ). Columns (at .before .args .x) k (layersOf s) (at .loop .starts) (at .loop .shares)) e (at .loop .inv .3)
+    subst (λ (k : ℕ). Columns (at .before .before .args .x) k (layersOf s) (at .loop .starts) (at .loop .shares)) e (at .loop .inv .3)
 
 pub fill-columns-spec : {M : Type 1} → statement M
 fill-columns-spec =
@@ -121,7 +121,7 @@ fill-columns-spec =
     μ-loop
     loop-holds
     mul-l
-    element-copy-out-l
+    array-copy-out-l
     mul-starts
     cast-starts
     mul-starts-2
@@ -131,7 +131,7 @@ fill-columns-spec =
     cast-shares
     mul-shares-2
     cast-shares-2
-    mul-t8
+    mul-t10
     element-set-from-shares-2
     add-i
     loop-less

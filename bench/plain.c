@@ -1,0 +1,203 @@
+/* Find a depth and Check in plain C, as a C programmer would write them who wants them quick: the measure that the engine is held to.
+ * The same tests in the same sequence, the same rule of halving without a division, r and q by that rule too, K from a table.
+ * With -DSAME it is Check with r and q by the rule that the engine has for them: a span that is halved whatever the trial says.
+ * Every number fits int64_t (the products are taken in an order in which they do), so __int128 is nowhere needed. */
+#include <stdbool.h>
+#include "bench.h"
+
+/* What the formulas use of the concrete and the steel: T, E, L, f, g and s of document 01. */
+struct materials { int64_t t, e, l, f, g, s; };
+
+/* Tests 3 and 4: the number of the one that fails, or 0. */
+static inline int look_up(int64_t fck, int64_t fyk, struct materials *m)
+{
+    switch (fck) {
+    case 12: m->t = 16; m->e = 700; break;
+    case 16: m->t = 19; m->e = 700; break;
+    case 20: m->t = 22; m->e = 700; break;
+    case 25: m->t = 26; m->e = 700; break;
+    case 30: m->t = 29; m->e = 700; break;
+    case 35: m->t = 32; m->e = 700; break;
+    case 40: m->t = 35; m->e = 700; break;
+    case 45: m->t = 38; m->e = 700; break;
+    case 50: m->t = 41; m->e = 700; break;
+    case 55: m->t = 42; m->e = 620; break;
+    case 60: m->t = 44; m->e = 580; break;
+    case 70: m->t = 46; m->e = 540; break;
+    case 80: m->t = 48; m->e = 520; break;
+    case 90: m->t = 50; m->e = 520; break;
+    default: return 3;
+    }
+    if (fyk < 400 || fyk > 600) return 4;
+    m->g = fck * 200 / 3;
+    m->f = fck <= 50 ? m->g : fck * (250 - fck) / 3;
+    m->l = fck <= 50 ? 64 : (370 - fck) / 5;
+    m->s = fyk * 2000 / 23;
+    return 0;
+}
+
+/* Tests 1 to 7. */
+static inline int accept(const struct section *s, struct materials *m)
+{
+    if (s->width < 50 || s->width > 2000) return 1;
+    if (s->height < 50 || s->height > 2000) return 2;
+    int k = look_up(s->fck, s->fyk, m);
+    if (k) return k;
+    if (s->count < 1 || s->count > 16) return 5;
+    for (size_t i = 0; i < s->count; i++)
+        if (s->layers[i].depth < 1 || s->layers[i].depth >= s->height) return 6;
+    for (size_t i = 0; i < s->count; i++)
+        if (s->layers[i].area < 1 || s->layers[i].area > 20000) return 7;
+    return 0;
+}
+
+/* 80,000·u times the internal force at u. */
+static inline int64_t force(const struct layer *layers, size_t count, int64_t flb, const struct materials *m, int64_t u)
+{
+    int64_t sum = 0, hi = m->s * u, lo = -hi, rise = 100 * m->e * u, e = 1000 * m->e;
+    for (size_t i = 0; i < count; i++) {
+        int64_t x = rise - e * layers[i].depth;
+        x = x < lo ? lo : x;
+        x = x > hi ? hi : x;
+        sum += layers[i].area * x;
+    }
+    return flb * u * u + 800 * sum;
+}
+
+/* The depth, or the refusal 11 or 12. */
+static inline int depth_for(const struct layer *layers, size_t count, int64_t b, int64_t h, const struct materials *m, int64_t n, int64_t *u)
+{
+    int64_t flb = m->f * m->l * b, lo = 1, hi = 10 * h;
+    if (force(layers, count, flb, m, 1) > n * 80000) return 11;
+    if (force(layers, count, flb, m, hi) < n * 80000 * hi) return 12;
+    while (lo < hi) {
+        int64_t mid = (lo + hi + 1) / 2;
+        if (force(layers, count, flb, m, mid) <= n * 80000 * mid) lo = mid; else hi = mid - 1;
+    }
+    *u = lo;
+    return 0;
+}
+
+static inline bool outside(int64_t x, int64_t limit) { return x < -limit || x > limit; }
+
+__attribute__((unused)) static inline struct depth_answer find_depth(const struct section *s, int64_t n)
+{
+    struct materials m;
+    int64_t u = 0;
+    int k = accept(s, &m);
+    if (!k && outside(n, 500000000)) k = 8;
+    if (!k) k = depth_for(s->layers, s->count, s->width, s->height, &m, n, &u);
+    return (struct depth_answer){ (uint64_t)k, (uint64_t)u };
+}
+
+/* a / b rounded down, b above 0. */
+static inline int64_t floor_div(int64_t a, int64_t b) { return a / b - (a % b < 0); }
+
+static inline int64_t moment_resistance(const struct layer *layers, size_t count, int64_t b, int64_t h, const struct materials *m, int64_t u)
+{
+    int64_t hi = m->s * u, lo = -hi, rise = 100 * m->e * u, e = 1000 * m->e, k = m->l * u;
+    int64_t sum = m->f * b * (k * (800 * h - k)) / 128000000;
+    for (size_t i = 0; i < count; i++) {
+        int64_t d = layers[i].depth, x = rise - e * d;
+        x = x < lo ? lo : x;
+        x = x > hi ? hi : x;
+        sum += floor_div(layers[i].area * x * (h - 2 * d), 200 * u);
+    }
+    return sum;
+}
+
+/* The greatest k up to most with a·k² or a·k³ at most y. */
+#ifdef SAME
+#define GREATEST(test) \
+    int64_t k = 0, span = most; \
+    while (0 < span) { \
+        int64_t rest = span / 2, trial = k + (span - rest); \
+        span = rest; \
+        if (test) k = trial; \
+    } \
+    return k
+#else
+#define GREATEST(test) \
+    int64_t lo = 0, hi = most; \
+    while (lo < hi) { \
+        int64_t trial = (lo + hi + 1) / 2; \
+        if (test) lo = trial; else hi = trial - 1; \
+    } \
+    return lo
+#endif
+static inline int64_t square_root(int64_t a, int64_t y, int64_t most) { GREATEST(a * trial * trial <= y); }
+static inline int64_t cube_root(int64_t a, int64_t y, int64_t most) { GREATEST(a * trial * trial * trial <= y); }
+
+/* K for dm 200 to 1,999, made once from its definition. */
+static uint16_t factors[1800];
+
+static void start(void)
+{
+    for (int dm = 200; dm < 2000; dm++)
+        factors[dm - 200] = (uint16_t)(1000 + square_root(dm, 200000000, 1000));
+}
+
+static inline int64_t shear_resistance(int64_t b, int64_t h, int64_t fck, int64_t g, int64_t n, int64_t area, int64_t dm)
+{
+    if (!area) return 0;
+    int64_t k = dm < 200 ? 2000 : factors[dm - 200], concrete = b * dm, cap = g * b * h / 500;
+    int64_t r = 50 * area > concrete ? cube_root(1, 2000000000 * fck, 5646) : cube_root(concrete, 100000000000 * area * fck, 5646);
+    int64_t q = square_root(1000, k * k * k * fck, 26832);
+    int64_t by_ratio = 12 * k * r / 100, least = 35 * q, v = by_ratio > least ? by_ratio : least, c = n < cap ? n : cap;
+    int64_t sum = v * concrete / 1000000 + floor_div(15 * c * dm, 100 * h);
+    return sum < 0 ? 0 : sum;
+}
+
+static inline int64_t magnitude(int64_t x) { return x < 0 ? -x : x; }
+
+/* What is reported at u. */
+static inline struct check_answer report(const struct layer *layers, const struct section *s, const struct materials *m, const struct load *l, int64_t u)
+{
+    int64_t b = s->width, h = s->height, area = 0, moment = 0, all = 0;
+    int64_t mrd = moment_resistance(layers, s->count, b, h, m, u);
+    for (size_t i = 0; i < s->count; i++) {
+        int64_t d = layers[i].depth, a = 10 * d > u ? layers[i].area : 0;
+        area += a;
+        moment += a * d;
+        all += layers[i].area;
+    }
+    int64_t dm = area ? moment / area : 0;
+    int64_t vrd = shear_resistance(b, h, s->fck, m->g, l->n, area, dm);
+    return (struct check_answer){
+        0, (uint64_t)u, mrd, (uint64_t)vrd, (uint64_t)dm, (uint64_t)area,
+        magnitude(l->m) > mrd,
+        !area ? 2 : 10 * u > (s->fck <= 50 ? 45 : 35) * dm,
+        !area ? 2 : magnitude(l->v) > vrd,
+        !area ? 2 : 26 * m->t * b * dm > 1000 * area * s->fyk || 13 * b * dm > 10000 * area,
+        25 * all > b * h,
+    };
+}
+
+static inline struct check_answer check(const struct section *s, const struct load *l)
+{
+    struct materials m;
+    struct layer turned[16];
+    const struct layer *layers = s->layers;
+    int64_t u = 0;
+    int k = accept(s, &m);
+    if (!k) k = outside(l->n, 500000000) ? 8 : outside(l->m, 1000000000000) ? 9 : outside(l->v, 500000000) ? 10 : 0;
+    if (!k && l->m < 0) {
+        for (size_t i = 0; i < s->count; i++)
+            turned[i] = (struct layer){ (uint32_t)s->height - s->layers[i].depth, s->layers[i].area };
+        layers = turned;
+    }
+    if (!k) k = depth_for(layers, s->count, s->width, s->height, &m, l->n, &u);
+    if (k) return (struct check_answer){ .refusal = (uint64_t)k, .v1 = 2, .v2 = 2, .v3 = 2, .v4 = 2, .v5 = 2 };
+    return report(layers, s, &m, l, u);
+}
+
+#ifdef SAME
+void same_start(void) { start(); }
+struct check_answer same_check(const struct section *s, const struct load *l) { return check(s, l); }
+#else
+void plain_start(void) { start(); }
+struct depth_answer plain_find_depth(const struct section *s, int64_t n) { return find_depth(s, n); }
+struct depth_answer plain_find_depth_by_value(struct section s, int64_t n) { return find_depth(&s, n); }
+struct check_answer plain_check(const struct section *s, const struct load *l) { return check(s, l); }
+struct check_answer plain_check_by_value(struct section s, struct load l) { return check(&s, &l); }
+#endif
