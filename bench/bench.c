@@ -46,19 +46,21 @@ static int64_t between(int64_t lo, int64_t hi) { return lo + (int64_t)below((uin
 static bool one_in(uint64_t n) { return below(n) == 0; }
 
 /* ---- comparison */
-static bool equal(struct check_answer a, struct check_answer b)
+static bool equal(salwoerk_report a, salwoerk_report b)
 {
     return a.refusal == b.refusal && a.u == b.u && a.mrd == b.mrd && a.vrd == b.vrd && a.dm == b.dm && a.area == b.area
-        && a.v1 == b.v1 && a.v2 == b.v2 && a.v3 == b.v3 && a.v4 == b.v4 && a.v5 == b.v5;
+        && !memcmp(a.verdicts, b.verdicts, sizeof a.verdicts);
 }
 
-static void print_check(const char *who, struct check_answer a)
+static void print_check(const char *who, salwoerk_report a)
 {
-    printf("%s %llu %llu %lld %llu %llu %llu  %d %d %d %d %d\n", who, (unsigned long long)a.refusal, (unsigned long long)a.u, (long long)a.mrd,
-        (unsigned long long)a.vrd, (unsigned long long)a.dm, (unsigned long long)a.area, a.v1, a.v2, a.v3, a.v4, a.v5);
+    printf("%s %llu %llu %lld %llu %llu %llu ", who, (unsigned long long)a.refusal, (unsigned long long)a.u, (long long)a.mrd,
+        (unsigned long long)a.vrd, (unsigned long long)a.dm, (unsigned long long)a.area);
+    for (int i = 0; i < 5; i++) printf(" %llu", (unsigned long long)a.verdicts[i]);
+    printf("\n");
 }
 
-static void print_section(const struct section *s, struct load l)
+static void print_section(const salwoerk_section *s, salwoerk_load l)
 {
     printf("b %lld h %lld fck %lld fyk %lld N %lld M %lld V %lld count %zu:", (long long)s->width, (long long)s->height, (long long)s->fck,
         (long long)s->fyk, (long long)l.n, (long long)l.m, (long long)l.v, s->count);
@@ -69,10 +71,10 @@ static void print_section(const struct section *s, struct load l)
 /* bit k: refusal k was met, bit 0: an answer; and the verdicts, three bits each */
 static uint64_t met, verdicts;
 
-static struct check_answer compare(const struct section *s, struct load l)
+static salwoerk_report compare(const salwoerk_section *s, salwoerk_load l)
 {
-    struct check_answer e = salwoerk_check(*s, l), p = plain_check(s, &l), v = plain_check_by_value(*s, l), r = same_check(s, &l);
-    struct depth_answer ed = salwoerk_find_depth(*s, l.n), pd = plain_find_depth(s, l.n), vd = plain_find_depth_by_value(*s, l.n);
+    salwoerk_report e = salwoerk_check(*s, l), p = plain_check(s, &l), v = plain_check_by_value(*s, l), r = same_check(s, &l);
+    salwoerk_depth ed = salwoerk_find_depth(*s, l.n), pd = plain_find_depth(s, l.n), vd = plain_find_depth_by_value(*s, l.n);
     bool depths = ed.refusal == pd.refusal && ed.depth == pd.depth && ed.refusal == vd.refusal && ed.depth == vd.depth;
     if (!equal(e, p) || !equal(e, v) || !equal(e, r) || !depths) {
         printf("DIFFERENT ANSWERS\n");
@@ -86,14 +88,14 @@ static struct check_answer compare(const struct section *s, struct load l)
         exit(1);
     }
     met |= 1ull << e.refusal;
-    if (!e.refusal) verdicts |= 1ull << e.v1 | 1ull << (3 + e.v2) | 1ull << (6 + e.v3) | 1ull << (9 + e.v4) | 1ull << (12 + e.v5);
+    for (int i = 0; i < 5 && !e.refusal; i++) verdicts |= 1ull << (3 * i + (int)e.verdicts[i]);
     return e;
 }
 
 /* ---- sections */
 
 /* An accepted section with so many layers; the places beyond hold numbers that no answer may depend on. */
-static void random_section(struct section *s, size_t count)
+static void random_section(salwoerk_section *s, size_t count)
 {
     s->width = between(50, 2000);
     s->height = between(50, 2000);
@@ -107,7 +109,7 @@ static void random_section(struct section *s, size_t count)
 }
 
 /* One number of an accepted section put at a limit or beyond it. */
-static void damage(struct section *s, struct load *l)
+static void damage(salwoerk_section *s, salwoerk_load *l)
 {
     static const int64_t sizes[] = { 49, 50, 51, 1999, 2000, 2001, 0, -1, 300, INT64_MIN, INT64_MAX };
     static const int64_t fcks[] = { 11, 12, 13, 31, 50, 55, 89, 90, 91, 0, -12, INT64_MIN, INT64_MAX };
@@ -116,7 +118,7 @@ static void damage(struct section *s, struct load *l)
     static const uint32_t areas[] = { 0, 1, 19999, 20000, 20001, UINT32_MAX };
     static const int64_t forces[] = { 500000000, 500000001, -500000000, -500000001, INT64_MIN, INT64_MAX, 0 };
     static const int64_t moments[] = { 1000000000000, 1000000000001, -1000000000000, -1000000000001, INT64_MIN, INT64_MAX, 0, -1, 1 };
-    struct layer *any = &s->layers[below(16)];
+    salwoerk_layer *any = &s->layers[below(16)];
     uint32_t depths[] = { 0, 1, (uint32_t)s->height - 1, (uint32_t)s->height, (uint32_t)s->height + 1, UINT32_MAX };
     switch (below(9)) {
     case 0: s->width = sizes[below(11)]; break;
@@ -132,13 +134,13 @@ static void damage(struct section *s, struct load *l)
 }
 
 /* The load at which the top, or the bottom for m < 0, has a depth near u: the internal force there in newtons, rounded down. */
-static int64_t force_near(const struct section *s, int64_t m, int64_t u)
+static int64_t force_near(const salwoerk_section *s, int64_t m, int64_t u)
 {
     int64_t lo = -500000000, hi = 500000000;
     while (lo < hi) {
         int64_t mid = lo + (hi - lo + 1) / 2;
-        struct load l = { mid, m, 0 };
-        struct check_answer a = plain_check(s, &l);
+        salwoerk_load l = { mid, m, 0 };
+        salwoerk_report a = plain_check(s, &l);
         if (a.refusal == 11 || (!a.refusal && a.u <= (uint64_t)u)) lo = mid; else hi = mid - 1;
     }
     return lo;
@@ -147,11 +149,11 @@ static int64_t force_near(const struct section *s, int64_t m, int64_t u)
 static void compare_all(void)
 {
     for (long k = 0; k < COMPARED; k++) {
-        struct section s;
+        salwoerk_section s;
         random_section(&s, 1 + below(16));
-        struct load l = { between(-3000000, 6000000), between(-2000000000, 2000000000), between(-1000000, 1000000) };
+        salwoerk_load l = { between(-3000000, 6000000), between(-2000000000, 2000000000), between(-1000000, 1000000) };
         while (one_in(4)) damage(&s, &l);
-        struct check_answer a = compare(&s, l);
+        salwoerk_report a = compare(&s, l);
         if (one_in(64) && !a.refusal) { /* where answers turn */
             int64_t turn = force_near(&s, l.m, one_in(8) ? 0 : one_in(8) ? 10 * s.height : between(1, 10 * s.height));
             for (int64_t n = turn - 1; n <= turn + 2; n++) {
@@ -160,8 +162,8 @@ static void compare_all(void)
                 if (a.refusal || a.mrd < 1) continue;
                 int64_t side = l.m < 0 ? -1 : 1;
                 for (int64_t d = -1; d <= 1; d++) {
-                    compare(&s, (struct load){ n, side * (a.mrd + d), (int64_t)a.vrd + d });
-                    compare(&s, (struct load){ n, side * (a.mrd + d), -(int64_t)a.vrd - d });
+                    compare(&s, (salwoerk_load){ n, side * (a.mrd + d), (int64_t)a.vrd + d });
+                    compare(&s, (salwoerk_load){ n, side * (a.mrd + d), -(int64_t)a.vrd - d });
                 }
             }
         }
@@ -177,14 +179,14 @@ static void compare_all(void)
 }
 
 /* ---- times */
-static struct section sections[SECTIONS];
-static struct load loads[SECTIONS];
+static salwoerk_section sections[SECTIONS];
+static salwoerk_load loads[SECTIONS];
 
 /* Accepted by both calls: of the size of beams and columns, steel up to about 4 % of the section. */
 static void fill(size_t count)
 {
     for (int k = 0; k < SECTIONS; k++) {
-        struct section *s = &sections[k];
+        salwoerk_section *s = &sections[k];
         do {
             random_section(s, count);
             s->width = between(200, 1000);
@@ -193,7 +195,7 @@ static void fill(size_t count)
                 s->layers[i].depth = (uint32_t)between(30, s->height - 30);
                 s->layers[i].area = (uint32_t)between(100, 20000 / (int64_t)count);
             }
-            loads[k] = (struct load){ between(-200000, 2000000), between(-1000000000, 1000000000), between(-500000, 500000) };
+            loads[k] = (salwoerk_load){ between(-200000, 2000000), between(-1000000000, 1000000000), between(-500000, 500000) };
         } while (compare(s, loads[k]).refusal || plain_find_depth(s, loads[k].n).refusal);
     }
 }
@@ -264,7 +266,7 @@ static unsigned char *put(unsigned char *at, uint64_t x, int bytes)
     return at;
 }
 
-static unsigned char *put_record(unsigned char *at, const struct section *s, struct load l)
+static unsigned char *put_record(unsigned char *at, const salwoerk_section *s, salwoerk_load l)
 {
     at = put(at, 0x7f | ((1u << s->count) - 1) << 8, 4);
     int64_t fields[] = { s->width, s->height, s->fck, s->fyk, l.n, l.m, l.v };

@@ -37,7 +37,7 @@ static inline int look_up(int64_t fck, int64_t fyk, struct materials *m)
 }
 
 /* Tests 1 to 7. */
-static inline int accept(const struct section *s, struct materials *m)
+static inline int accept(const salwoerk_section *s, struct materials *m)
 {
     if (s->width < 50 || s->width > 2000) return 1;
     if (s->height < 50 || s->height > 2000) return 2;
@@ -52,7 +52,7 @@ static inline int accept(const struct section *s, struct materials *m)
 }
 
 /* 80,000·u times the internal force at u. */
-static inline int64_t force(const struct layer *layers, size_t count, int64_t flb, const struct materials *m, int64_t u)
+static inline int64_t force(const salwoerk_layer *layers, size_t count, int64_t flb, const struct materials *m, int64_t u)
 {
     int64_t sum = 0, hi = m->s * u, lo = -hi, rise = 100 * m->e * u, e = 1000 * m->e;
     for (size_t i = 0; i < count; i++) {
@@ -65,7 +65,7 @@ static inline int64_t force(const struct layer *layers, size_t count, int64_t fl
 }
 
 /* The depth, or the refusal 11 or 12. */
-static inline int depth_for(const struct layer *layers, size_t count, int64_t b, int64_t h, const struct materials *m, int64_t n, int64_t *u)
+static inline int depth_for(const salwoerk_layer *layers, size_t count, int64_t b, int64_t h, const struct materials *m, int64_t n, int64_t *u)
 {
     int64_t flb = m->f * m->l * b, lo = 1, hi = 10 * h;
     if (force(layers, count, flb, m, 1) > n * 80000) return 11;
@@ -80,20 +80,20 @@ static inline int depth_for(const struct layer *layers, size_t count, int64_t b,
 
 static inline bool outside(int64_t x, int64_t limit) { return x < -limit || x > limit; }
 
-__attribute__((unused)) static inline struct depth_answer find_depth(const struct section *s, int64_t n)
+__attribute__((unused)) static inline salwoerk_depth find_depth(const salwoerk_section *s, int64_t n)
 {
     struct materials m;
     int64_t u = 0;
     int k = accept(s, &m);
     if (!k && outside(n, 500000000)) k = 8;
     if (!k) k = depth_for(s->layers, s->count, s->width, s->height, &m, n, &u);
-    return (struct depth_answer){ (uint64_t)k, (uint64_t)u };
+    return (salwoerk_depth){ (uint64_t)k, (uint64_t)u };
 }
 
 /* a / b rounded down, b above 0. */
 static inline int64_t floor_div(int64_t a, int64_t b) { return a / b - (a % b < 0); }
 
-static inline int64_t moment_resistance(const struct layer *layers, size_t count, int64_t b, int64_t h, const struct materials *m, int64_t u)
+static inline int64_t moment_resistance(const salwoerk_layer *layers, size_t count, int64_t b, int64_t h, const struct materials *m, int64_t u)
 {
     int64_t hi = m->s * u, lo = -hi, rise = 100 * m->e * u, e = 1000 * m->e, k = m->l * u;
     int64_t sum = m->f * b * (k * (800 * h - k)) / 128000000;
@@ -151,7 +151,7 @@ static inline int64_t shear_resistance(int64_t b, int64_t h, int64_t fck, int64_
 static inline int64_t magnitude(int64_t x) { return x < 0 ? -x : x; }
 
 /* What is reported at u. */
-static inline struct check_answer report(const struct layer *layers, const struct section *s, const struct materials *m, const struct load *l, int64_t u)
+static inline salwoerk_report report(const salwoerk_layer *layers, const salwoerk_section *s, const struct materials *m, const salwoerk_load *l, int64_t u)
 {
     int64_t b = s->width, h = s->height, area = 0, moment = 0, all = 0;
     int64_t mrd = moment_resistance(layers, s->count, b, h, m, u);
@@ -163,41 +163,41 @@ static inline struct check_answer report(const struct layer *layers, const struc
     }
     int64_t dm = area ? moment / area : 0;
     int64_t vrd = shear_resistance(b, h, s->fck, m->g, l->n, area, dm);
-    return (struct check_answer){
+    return (salwoerk_report){
         0, (uint64_t)u, mrd, (uint64_t)vrd, (uint64_t)dm, (uint64_t)area,
-        magnitude(l->m) > mrd,
+        { magnitude(l->m) > mrd,
         !area ? 2 : 10 * u > (s->fck <= 50 ? 45 : 35) * dm,
         !area ? 2 : magnitude(l->v) > vrd,
         !area ? 2 : 26 * m->t * b * dm > 1000 * area * s->fyk || 13 * b * dm > 10000 * area,
-        25 * all > b * h,
+        25 * all > b * h },
     };
 }
 
-static inline struct check_answer check(const struct section *s, const struct load *l)
+static inline salwoerk_report check(const salwoerk_section *s, const salwoerk_load *l)
 {
     struct materials m;
-    struct layer turned[16];
-    const struct layer *layers = s->layers;
+    salwoerk_layer turned[16];
+    const salwoerk_layer *layers = s->layers;
     int64_t u = 0;
     int k = accept(s, &m);
     if (!k) k = outside(l->n, 500000000) ? 8 : outside(l->m, 1000000000000) ? 9 : outside(l->v, 500000000) ? 10 : 0;
     if (!k && l->m < 0) {
         for (size_t i = 0; i < s->count; i++)
-            turned[i] = (struct layer){ (uint32_t)s->height - s->layers[i].depth, s->layers[i].area };
+            turned[i] = (salwoerk_layer){ (uint32_t)s->height - s->layers[i].depth, s->layers[i].area };
         layers = turned;
     }
     if (!k) k = depth_for(layers, s->count, s->width, s->height, &m, l->n, &u);
-    if (k) return (struct check_answer){ .refusal = (uint64_t)k, .v1 = 2, .v2 = 2, .v3 = 2, .v4 = 2, .v5 = 2 };
+    if (k) return (salwoerk_report){ .refusal = (uint64_t)k, .verdicts = { 2, 2, 2, 2, 2 } };
     return report(layers, s, &m, l, u);
 }
 
 #ifdef SAME
 void same_start(void) { start(); }
-struct check_answer same_check(const struct section *s, const struct load *l) { return check(s, l); }
+salwoerk_report same_check(const salwoerk_section *s, const salwoerk_load *l) { return check(s, l); }
 #else
 void plain_start(void) { start(); }
-struct depth_answer plain_find_depth(const struct section *s, int64_t n) { return find_depth(s, n); }
-struct depth_answer plain_find_depth_by_value(struct section s, int64_t n) { return find_depth(&s, n); }
-struct check_answer plain_check(const struct section *s, const struct load *l) { return check(s, l); }
-struct check_answer plain_check_by_value(struct section s, struct load l) { return check(&s, &l); }
+salwoerk_depth plain_find_depth(const salwoerk_section *s, int64_t n) { return find_depth(s, n); }
+salwoerk_depth plain_find_depth_by_value(salwoerk_section s, int64_t n) { return find_depth(&s, n); }
+salwoerk_report plain_check(const salwoerk_section *s, const salwoerk_load *l) { return check(s, l); }
+salwoerk_report plain_check_by_value(salwoerk_section s, salwoerk_load l) { return check(&s, &l); }
 #endif
