@@ -2,6 +2,7 @@
 // output.
 use libc::STDIN_FILENO;
 use libc::STDOUT_FILENO;
+ghost use mathlib.Core.Bool.{true};
 ghost use mathlib.Core.Path.{_≡_};
 ghost use Prim.Native.Nat.{_≤_};
 ghost use lib.ListN.{length};
@@ -17,7 +18,9 @@ fn list_buffer() -> [u8; 786480]
 }
 
 // Is there more input than the n bytes that were read? Only where they fill the buffer.
-fn more_input(n: usize) -> bool {
+fn more_input(n: usize) -> bool
+    ensures { λ r. ⌜ (r ≡ true → 65536 ≤ n) ⌝ }
+{
     if n < 65536 {
         return false;
     }

@@ -3,7 +3,7 @@ use mathlib.Core.Path.{_≡_, refl, sym, ap}
 use mathlib.Core.Bool.{Bool, true, false, cond}
 use mathlib.Core.List.{List, [], _∷_}
 use Prim.Native.Nat.{ℕ, suc, _+_, _*_, _/_, _≤_, _<_}
-use native.Mathlib.Nat.{zero-add, mul-add, zero-div, mul-le-mul-left, div-le-of-le-mul, le-div-iff-mul-le, le-trans, min-le-left}
+use native.Mathlib.Nat.{zero-add, mul-add, zero-div, mul-le-mul-left, div-le-of-le-mul, le-trans, min-le-left}
 use native.Mathlib.Omega.{arith}
 use lib.Dec.{leb, ltb}
 use lib.ListN.{length, length-take}
@@ -84,20 +84,11 @@ module _ (h : ℕ) where
   moment-high : (l : Layer) → depthOk (suc h) l ≡ true → l .area * l .depth ≤ h * l .area
   moment-high l e = omega (arith, mul-le-mul-left {m = l .depth} {n = h} (l .area) (omega (arith, depth-high (suc h) l e)))
 
-  moment-low : (l : Layer) → depthOk (suc h) l ≡ true → l .area ≤ 1 * (l .area * l .depth)
-  moment-low l e = omega (arith, mul-le-mul-left {m = 1} {n = l .depth} (l .area) (depth-low (suc h) l e))
-
   pub firstMoment-high : (ts : List Layer) → all (depthOk (suc h)) ts ≡ true → firstMoment ts ≤ h * areaOf ts
   firstMoment-high ts e = total-le (depthOk (suc h)) (λ l. l .area * l .depth) (λ l. l .area) h moment-high ts e
 
   pub mean-high : (ts : List Layer) → all (depthOk (suc h)) ts ≡ true → meanDepth ts ≤ h
   mean-high ts e = rw (mean-is ts) (div-le-of-le-mul (areaOf ts) (omega (arith, firstMoment-high ts e)))
-
-  pub mean-low : (ts : List Layer) → all (depthOk (suc h)) ts ≡ true → 1 ≤ areaOf ts → 1 ≤ meanDepth ts
-  mean-low ts e a =
-      rw (mean-is ts)
-      (le-div-iff-mul-le {k = areaOf ts} {x = 1} {y = firstMoment ts} a .1
-      (omega (arith, total-le (depthOk (suc h)) (λ l. l .area) (λ l. l .area * l .depth) 1 moment-low ts e)))
 
 -- ---- a section's sums
 pub areaOf-high : (s : Section) → Counts s → areaOf (layersOf s) ≤ 320000
@@ -114,9 +105,6 @@ module _ (s : Section) (u : ℕ) (h : Counts s) where
 
   pub dm-high : dm u (layersOf s) ≤ 1999
   dm-high = mean-high 1999 (tensionLayers u (layersOf s)) (all-tension u (depthOk 2000) (layersOf s) (h .depths))
-
-  pub dm-low : 1 ≤ As u (layersOf s) → 1 ≤ dm u (layersOf s)
-  dm-low a = mean-low 1999 (tensionLayers u (layersOf s)) (all-tension u (depthOk 2000) (layersOf s) (h .depths)) a
 
 -- As is 0 only where no layer is in tension: every area is at least 1
 empty : (ts : List Layer) → all areaOk ts ≡ true → areaOf ts ≡ 0 → ts ≡ []

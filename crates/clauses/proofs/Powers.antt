@@ -1,6 +1,5 @@
 -- The test kᵉ·a ≤ y: it never comes back, and its products as the code makes them. Assumes nothing.
-use mathlib.Core.Path.{_≡_, refl}
-use mathlib.Core.Bool.{Bool}
+use mathlib.Core.Path.{_≡_}
 use Prim.Native.Nat.{ℕ, zero, suc, _*_, _^_, _≤_}
 use native.Mathlib.Nat.{one-mul, pow-suc, pow-zero, le-trans, mul-le-mul-right, pow-le-pow-left, lt-of-le-of-lt, le-mul-of-pos-right}
 use native.Mathlib.Omega.{arith}

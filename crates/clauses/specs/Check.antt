@@ -19,7 +19,6 @@ use Rattle.equilibrium.specs.Load.{loadRefusal}
 use Rattle.equilibrium.specs.Force.{momentResistance}
 use Rattle.equilibrium.specs.Turned.{turned, turnedSection}
 use Rattle.equilibrium.specs.Depth.{depthFor}
-use Rattle.clauses.specs.declared.Verdict.{Verdict}
 use Rattle.clauses.specs.declared.Listed.{Listed}
 use Rattle.clauses.specs.declared.Report.{Report}
 use Rattle.clauses.specs.declared.Checked.{Checked}

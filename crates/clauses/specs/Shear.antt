@@ -1,6 +1,6 @@
 -- The shear resistance without shear reinforcement, 6.2.2(1): document 01, "Verdicts", the third. As is the area of the
 -- tension layers, dm their mean depth, and g the concrete's strength without the block's factor. Assumes nothing.
-use Prim.Native.Nat.{ℕ, _+_, _*_, _/_, _^_, max, _≤_}
+use Prim.Native.Nat.{ℕ, _*_, _/_, _^_, max, _≤_}
 use mathlib.Core.Bool.{Bool, cond}
 use lib.Dec.{leb, ltb}
 use lib.IntN.{ℤ, pos, negsuc, _+ℤ_, _*ℤ_}

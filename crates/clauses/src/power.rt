@@ -1,4 +1,4 @@
-// "The greatest whole number with" of document 01, for K's kind of test: the roots of the shear resistance are found here.
+// "The greatest whole number with" of document 01, where a second or third power is compared: r and q of the shear resistance.
 ghost use mathlib.Core.Path.{_≡_};
 ghost use Rattle.arith.specs.Greatest.{greatest};
 ghost use Rattle.clauses.specs.Power.{powerAtMost, PowerFits};

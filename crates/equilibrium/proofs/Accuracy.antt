@@ -1,12 +1,12 @@
 -- Demand 3 of document 01: the one theorem, of any numbers that keep the promise and of either face. Assumes nothing.
-use Prim.Native.Nat.{ℕ, _+_, _*_, _≤_, _<_}
-use mathlib.Core.Bool.{Bool, true, false}
+use Prim.Native.Nat.{ℕ, _+_, _*_, _≤_}
+use mathlib.Core.Bool.{Bool, true}
 use mathlib.Core.List.{List}
-use mathlib.Core.Path.{_≡_, refl}
+use mathlib.Core.Path.{_≡_}
 use native.Mathlib.Nat.{mul-pos, le-of-mul-le-mul-right}
 use native.Mathlib.Omega.{arith}
 use lib.IntN.{ℤ}
-use Rattle.arith.specs.Fraction.{Proper, Ratio, by, integer, atMost, _≤ᶠ_, _<ᶠ_, _≤ʳ_, _<ʳ_}
+use Rattle.arith.specs.Fraction.{Proper, Ratio, by, integer, _≤ᶠ_, _<ᶠ_, _≤ʳ_, _<ʳ_}
 use Rattle.arith.specs.Greatest.{greatest}
 use Rattle.arith.proofs.Fraction.{Positive, proper, by-positive, integer-proper, Tested, Tested.below, Tested.above, tested, passes, holds-true, ≤ᶠ-trans, <ᶠ-≤ᶠ-trans}
 use Rattle.arith.proofs.Greatest.{NeverBack, greatest-le, le-greatest, greatest-passes}

@@ -7,7 +7,7 @@ use native.Mathlib.Nat.{mul-le-mul-left}
 use native.Mathlib.Omega.{arith}
 use lib.Dec.{leb, ltb}
 use borrow.Author.Tests.{leb-true}
-use Rattle.arith.specs.Fraction.{Fraction, by, whole, ratio, _+ᶠ_, _-ᶠ_, _*ᶠ_, _/ᶠ_, _≤ᶠ_, atMost, held}
+use Rattle.arith.specs.Fraction.{by, whole, ratio, _+ᶠ_, _-ᶠ_, _*ᶠ_, _/ᶠ_, _≤ᶠ_, held}
 use Rattle.arith.proofs.Fraction.{tidy, tested, holds-true}
 use Rattle.arith.proofs.Test.{both-true}
 use Rattle.equilibrium.specs.declared.Layer.{Layer}

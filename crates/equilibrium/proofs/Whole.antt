@@ -1,14 +1,14 @@
 -- At a whole depth u stress, force and moment are integers over a natural: what the code computes. Assumes nothing.
-use Prim.Native.Nat.{ℕ, _+_, _-_, _*_, _/_, _≤_}
+use Prim.Native.Nat.{ℕ, _+_, _*_, _/_, _≤_}
 use mathlib.Core.List.{List, [], _∷_}
 use mathlib.Core.Path.{_≡_, refl, ap, _∙_}
 use mathlib.Core.Bool.{Bool, true, false, cond}
 use native.Mathlib.Omega.{arith}
-use lib.IntN.{ℤ, pos, negsuc, _-ℤ_, _*ℤ_}
+use lib.IntN.{ℤ, pos, negsuc, _*ℤ_}
 use lib.Signed.{leZ}
-use Rattle.arith.specs.Fraction.{Fraction, Proper, Ratio, by, whole, integer, ratio, _+ᶠ_, _-ᶠ_, _*ᶠ_, _/ᶠ_, atMost, held, floor}
+use Rattle.arith.specs.Fraction.{Fraction, Proper, by, whole, integer, ratio, _+ᶠ_, _-ᶠ_, _*ᶠ_, _/ᶠ_, atMost, held, floor}
 use Rattle.arith.specs.Floor.{floorDiv}
-use Rattle.arith.proofs.Ring.{P, N, E, #, _⊕_, _⊝_, _⊗_, val, p, n}
+use Rattle.arith.proofs.Ring.{P, N, E, #, _⊕_, _⊝_, _⊗_, val}
 use Rattle.arith.proofs.Fraction.{tidy, Same, by-positive, proper, +ᶠ-proper, *ᶠ-comm}
 use Rattle.arith.proofs.Quotient.{same-trans, same-add, same-mul, same-at-most, same-at-least, parts, per, per-proper, by-value, floor-same, test-is}
 use Rattle.equilibrium.specs.declared.Layer.{Layer}
@@ -16,7 +16,7 @@ use Rattle.equilibrium.specs.declared.Design.{Design}
 use Rattle.equilibrium.specs.Force.{at, concreteForce, stress, layerForce, steelForce, internalForce, concreteMoment, layerMoment}
 use Rattle.equilibrium.specs.Depth.{carries, reaches}
 use Rattle.equilibrium.specs.Whole.{heldAt, shareOf, stressAt, steelAt, excess}
-use Rattle.equilibrium.proofs.Rising.{layer-proper, force-proper}
+use Rattle.equilibrium.proofs.Rising.{force-proper}
 use Rattle.equilibrium.proofs.Nearness.{concrete-moment-proper, layer-moment-proper}
 
 -- ---- a layer

@@ -1,7 +1,7 @@
 -- What the code computes is what the formulas say, at every strength that it meets: one computed test for each letter.
 -- The factors stand in `persistent` only. Assumes nothing.
 use Prim.Native.Nat.{ℕ, _-_, _*_, _/_, _≤_, _<_}
-use mathlib.Core.Bool.{Bool, cond}
+use mathlib.Core.Bool.{cond}
 use mathlib.Core.Path.{_≡_}
 use native.Mathlib.Omega.{arith}
 use lib.Dec.{T, leb, eqb, eqb→eq}

@@ -95,8 +95,8 @@ fn load_of(s: &[u8], map: u32) -> Load
 }
 
 // A refusal with the length that it names.
-fn refuse(number: u8, length: usize) -> Reading
-    ensures { λ r. ⌜ r ≡ refused number length ⌝ }
+fn refuse(number: u8, bytes: usize) -> Reading
+    ensures { λ r. ⌜ r ≡ refused number bytes ⌝ }
 {
     let layers = [Layer { depth: 0, area: 0 }; 16];
     let section = Section {
@@ -110,7 +110,7 @@ fn refuse(number: u8, length: usize) -> Reading
     let load = Load { n: 0, m: 0, v: 0 };
     Reading {
         refusal: number,
-        length: length,
+        length: bytes,
         section: section,
         load: load,
     }

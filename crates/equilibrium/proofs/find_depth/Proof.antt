@@ -1,5 +1,4 @@
 -- `equilibrium::find_depth` meets its contract: the equation by the arms of the code, and the accuracy from it. Assumes nothing.
-use mathlib.Core.Bool.{true, false}
 use mathlib.Core.Path.{_≡_, sym, ap, _∙_}
 use lib.IntN.{ℤ}
 use mir.Facts.{toZ-ofZ}

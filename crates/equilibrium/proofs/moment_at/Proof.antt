@@ -1,6 +1,5 @@
 -- `equilibrium::moment_at` meets its contract. Assumes nothing.
-use Prim.Native.Nat.{_*_, _≤_}
-use mathlib.Core.Bool.{true, false}
+use Prim.Native.Nat.{_*_}
 use mathlib.Core.Path.{_≡_, sym, _∙_}
 use native.Mathlib.Omega.{arith}
 use lib.Dec.{leb}

@@ -1,3 +1,5 @@
+-- `listing::list` meets its contract: writing the lines of the records that are left finishes the list, and each record
+-- leaves room for those after it. Assumes nothing.
 use mathlib.Core.Path.{_≡_, sym, ap, _∙_, subst}
 use mathlib.Core.Bool.{false}
 use mathlib.Core.List.{List, [], _∷_}

@@ -1,5 +1,5 @@
 -- `clauses::check::faced` meets its contract. Assumes nothing.
-use mathlib.Core.Bool.{Bool, true, false}
+use mathlib.Core.Bool.{Bool}
 use mathlib.Core.Path.{_≡_, sym, ap, _∙_}
 use lib.IntN.{ℤ, pos}
 use lib.Signed.{leZ}

@@ -2,7 +2,7 @@
 use Prim.Native.Nat.{_*_}
 use mathlib.Core.Path.{_∙_}
 use native.Mathlib.Omega.{arith}
-use lib.IntN.{ℤ, pos}
+use lib.IntN.{pos}
 use lib.Signed.{_<ℤ_}
 use Rattle.arith.specs.Floor.{floorDiv}
 use Rattle.arith.proofs.Machine.{M, M.num, M._⊠_, var, nat, fits, value, for, result}

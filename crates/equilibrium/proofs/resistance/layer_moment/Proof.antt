@@ -1,7 +1,7 @@
 -- `equilibrium::resistance::layer_moment` meets its contract: each need is its source expression. Assumes nothing.
-use mathlib.Core.Path.{_≡_, sym, _∙_}
+use mathlib.Core.Path.{sym, _∙_}
 use native.Mathlib.Omega.{arith}
-use lib.IntN.{ℤ, pos}
+use lib.IntN.{pos}
 use lib.Signed.{_<ℤ_}
 use borrow.Author.Needs.{needs}
 use Rattle.arith.specs.Floor.{floorDiv}

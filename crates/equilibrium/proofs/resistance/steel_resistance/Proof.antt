@@ -1,11 +1,11 @@
 -- `equilibrium::resistance::steel_resistance` meets its contract: the sum so far and what the layers left give is what all give.
 -- Assumes nothing.
-use Prim.Native.Nat.{ℕ, _≤_, _-_, _*_}
+use Prim.Native.Nat.{_≤_, _-_, _*_}
 use mathlib.Core.List.{[]}
-use mathlib.Core.Path.{_≡_, refl, sym, _∙_}
+use mathlib.Core.Path.{_≡_, refl}
 use native.Mathlib.Omega.{arith}
 use borrow.Author.Needs.{needs}
-use lib.IntN.{pos, _+ℤ_, +ℤ-idl}
+use lib.IntN.{_+ℤ_, +ℤ-idl}
 use lib.ListN.{take, drop, getD, length-map}
 use mir.Syntax.{w64}
 use mir.Val.{toZ}

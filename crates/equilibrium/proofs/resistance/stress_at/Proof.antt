@@ -1,7 +1,7 @@
 -- `equilibrium::resistance::stress_at` meets its contract: each need is its source expression. Assumes nothing.
-use mathlib.Core.Path.{_≡_, _∙_}
+use mathlib.Core.Path.{_∙_}
 use native.Mathlib.Omega.{arith}
-use lib.IntN.{ℤ, pos}
+use lib.IntN.{pos}
 use borrow.Author.Needs.{needs}
 use Rattle.arith.specs.Integer.{Within}
 use Rattle.arith.proofs.Machine.{M, nat, num, _⊟_, _⊠_, fits, value, inside, for, result}

@@ -1,6 +1,5 @@
 -- `equilibrium::search::by_trials` meets its contract: refusals 11 and 12, else the depth that halving finds. Assumes nothing.
 use Prim.Native.Nat.{_*_}
-use mathlib.Core.Bool.{true, false}
 use mathlib.Core.Path.{_≡_, ap, _∙_}
 use mir.Facts.{toZ-ofZ}
 use lib.IntN.{ℤ}

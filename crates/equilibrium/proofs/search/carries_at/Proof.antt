@@ -1,5 +1,5 @@
 -- `equilibrium::search::carries_at` meets its contract: the excess is not above 0. Assumes nothing.
-use mathlib.Core.Path.{_≡_, sym, ap, _∙_}
+use mathlib.Core.Path.{sym, ap, _∙_}
 use borrow.Author.Needs.{needs}
 use lib.IntN.{ℤ, pos}
 use lib.Signed.{leZ}

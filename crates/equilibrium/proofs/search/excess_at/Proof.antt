@@ -4,7 +4,6 @@ use mathlib.Core.Path.{_≡_, refl, ap, _∙_}
 use native.Mathlib.Nat.{mul-le-mul, mul-le-mul-left}
 use native.Mathlib.Omega.{arith}
 use borrow.Author.Needs.{needs}
-use mathlib.Core.List.{[]}
 use lib.IntN.{ℤ, pos, _+ℤ_, _-ℤ_, _*ℤ_, +ℤ-idl}
 use lib.ListN.{drop, getD}
 use mir.Facts.{toZ-ofZ}
@@ -16,7 +15,7 @@ use Rattle.arith.proofs.Machine as mach
 use Rattle.arith.proofs.Machine.{M, nat, local, call, _⊞_, _⊟_, _⊠_, fits, value, for}
 use Rattle.equilibrium.specs.Section.{layersOf}
 use Rattle.equilibrium.specs.Usable.{Bounded, LayerOk}
-use Rattle.equilibrium.specs.Whole.{heldAt, startOf, shareOf, stressAt, steelAt, concreteAt, excess, Place}
+use Rattle.equilibrium.specs.Whole.{heldAt, shareOf, stressAt, steelAt, concreteAt, excess, Place}
 use Rattle.equilibrium.proofs.Walk.{over, sum-step, sum-done}
 use Rattle.equilibrium.proofs.Sizes.{depth-most, start-in, share-in, held-in}
 use Rattle.equilibrium.proofs.Usable.{layer-at-ok}

@@ -1,6 +1,6 @@
 -- `equilibrium::search::reaches_at` meets its contract: at 10h the excess is not below 0. Assumes nothing.
 use Prim.Native.Nat.{_*_, _≤_}
-use mathlib.Core.Path.{_≡_, sym, ap, _∙_}
+use mathlib.Core.Path.{sym, ap, _∙_}
 use native.Mathlib.Omega.{arith}
 use borrow.Author.Needs.{needs}
 use lib.IntN.{ℤ, pos}

@@ -1,5 +1,5 @@
 -- `equilibrium::turning::turned_over` meets its contract: so far, the first i places are turned over. Assumes nothing.
-use Prim.Native.Nat.{ℕ, suc, _≤_, _-_}
+use Prim.Native.Nat.{ℕ, _≤_, _-_}
 use mathlib.Core.Path.{_≡_, ap, _∙_}
 use native.Mathlib.Numerals.{add-one}
 use native.Mathlib.Omega.{arith}

@@ -1,6 +1,6 @@
 -- `listing::text::put_natural`, which calls itself, meets its contract. The measure is the number. Assumes nothing.
 use mathlib.Core.Path.{sym, ap, _∙_}
-use Prim.Native.Nat.{ℕ, _+_, _<_}
+use Prim.Native.Nat.{ℕ, _<_}
 use native.Mathlib.Omega.{arith}
 use lib.ListN.{length}
 use borrow.Fn.Kinds.{In}
