@@ -1,11 +1,11 @@
 // What the clauses of EN 1992-1-1 say of a section and its load: document 01, "Verdicts".
-pub mod check;
+mod check;
 pub mod numbers;
-pub mod power;
-pub mod shear;
-pub mod size;
-pub mod tension;
-pub mod verdicts;
+mod power;
+mod shear;
+mod size;
+mod tension;
+mod verdicts;
 
 use equilibrium::Accepted;
 use equilibrium::Load;

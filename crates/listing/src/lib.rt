@@ -1,7 +1,7 @@
 // The check list: document 01, "The list". From the bytes of an input the lines of its records, into a lent buffer.
-pub mod entries;
-pub mod line;
-pub mod text;
+mod entries;
+mod line;
+mod text;
 
 use clauses::numbers::refused_listed;
 use entries::entry_of;

@@ -1,6 +1,6 @@
 // Records: document 01, "The record". A section and its load as bytes, read and written.
 mod bytes;
-pub mod map;
+mod map;
 pub mod reader;
 pub mod writer;
 
