@@ -72,7 +72,7 @@ pub fn find_depth(s: Section, n: i64) -> Depth
     match tests::accept(s) {
         Accepted::Refused(k) => Depth::Refused(k),
         Accepted::Ready(x) => {
-            if arith::in_range(-500000000, 500000000, n) {
+            if tests::force_ok(n) {
                 search::depth_for(x, s, n)
             } else {
                 Depth::Refused(8)

@@ -11,7 +11,7 @@ ghost use Prim.Native.Nat.{_+_, _<_, _≤_};
 ghost use lib.ListN.{drop};
 ghost use Rattle.equilibrium.specs.Section.{layersOf, counted, all, depthOk, areaOk, layersTested, accepted};
 ghost use Rattle.equilibrium.specs.Usable.{PromisedSection};
-ghost use Rattle.equilibrium.specs.Load.{loadRefusal, refusalOf};
+ghost use Rattle.equilibrium.specs.Load.{forceOk, loadRefusal, refusalOf};
 
 // The layer at a counted place. A loop that must be quick has the places in a local and reads them there: here the section is
 // copied at each call, and a loop over `s.layers[i]` makes one more copy of all its fields.
@@ -106,17 +106,24 @@ pub fn accept(s: Section) -> Accepted
     }
 }
 
+// Is N or V in its range?
+pub fn force_ok(n: i64) -> bool
+    ensures { λ r. ⌜ r ≡ forceOk n ⌝ }
+{
+    arith::in_range(-500000000, 500000000, n)
+}
+
 // Tests 8 to 10, or 0.
 pub fn load_refusal(l: Load) -> u8
     ensures { λ r. ⌜ r ≡ loadRefusal l ⌝ }
 {
-    if !arith::in_range(-500000000, 500000000, l.n) {
+    if !force_ok(l.n) {
         return 8;
     }
     if !arith::in_range(-1000000000000, 1000000000000, l.m) {
         return 9;
     }
-    if !arith::in_range(-500000000, 500000000, l.v) {
+    if !force_ok(l.v) {
         return 10;
     }
     0

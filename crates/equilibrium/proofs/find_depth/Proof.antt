@@ -22,15 +22,15 @@ enum-known-k c = search needs
 enum-known-x : tie.Need-enum-known-x
 enum-known-x c = search needs
 
-in-range-requires : tie.Need-in-range-requires
-in-range-requires c κs = search needs
+force-ok-requires : tie.Need-force-ok-requires
+force-ok-requires c κs = search needs
 
 -- an accepted section, and its load's test
 ready : (c : tie.After-x) → accepted (counted (c .before .before .before .args .s)) ≡ Ready (c .x .given .0 .0)
 ready c = sym (c .before .before .accept .ensures .0) ∙ c .x .given .1
 
-load-is : (c : tie.After-in-range) → c .in-range .result ≡ forceOk (c .before .before .before .before .before .args .n)
-load-is c = c .in-range .ensures ∙ ap forceOk (toZ-ofZ (c .before .before .before .before .before .fits .n))
+load-is : (c : tie.After-force-ok) → c .force-ok .result ≡ forceOk (c .before .before .before .before .before .args .n)
+load-is c = c .force-ok .ensures ∙ ap forceOk (toZ-ofZ (c .before .before .before .before .before .fits .n))
 
 depth-for-requires : tie.Need-depth-for-requires
 depth-for-requires c κs =
@@ -66,7 +66,7 @@ find-depth-spec =
     accept-requires
     enum-known-k
     enum-known-x
-    in-range-requires
+    force-ok-requires
     depth-for-requires
     returns
     returns-2
