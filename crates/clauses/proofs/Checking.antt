@@ -2,7 +2,7 @@
 use Prim.Native.Nat.{ℕ}
 use mathlib.Core.Bool.{Bool, true, false, cond}
 use mathlib.Core.List.{List}
-use mathlib.Core.Path.{_≡_, refl}
+use mathlib.Core.Path.{_≡_}
 use lib.Dec.{eqb}
 use lib.IntN.{ℤ, pos}
 use lib.Signed.{leZ}
@@ -18,16 +18,16 @@ use Rattle.equilibrium.specs.declared.Depth.the-variants as depth
 use Rattle.equilibrium.specs.Section.{layersOf, Counted, counted, accepted}
 use Rattle.equilibrium.specs.Load.{loadRefusal}
 use Rattle.equilibrium.specs.Usable.{Usable, PromisedSection}
-use Rattle.equilibrium.specs.Turned.{turned, turnedSection}
+use Rattle.equilibrium.specs.Turned.{turned}
 use Rattle.equilibrium.specs.Depth.{depthFor}
 use Rattle.equilibrium.specs.Accuracy.{Accurate, PromisedDepth}
 use Rattle.equilibrium.proofs.Usable.{section-promise}
 use Rattle.equilibrium.proofs.Found.{depth-promise}
-use Rattle.equilibrium.proofs.Turned.{turned-layers, usable-turned}
+use Rattle.equilibrium.proofs.Turned.{usable-turned}
 use Rattle.clauses.specs.declared.Checked.{Checked}
 use Rattle.clauses.specs.declared.Checked.the-variants.{Done, Refused}
 use Rattle.clauses.specs.Tension.{Counts}
-use Rattle.clauses.specs.Check.{facing, facedSection, reportAt, reportAfter, checkFace, checkAfter, checkIn, checkOf}
+use Rattle.clauses.specs.Check.{facing, reportAt, reportAfter, checkFace, checkAfter, checkIn, checkOf}
 use Rattle.clauses.specs.Accuracy.{AccurateAfter, AccurateCheck}
 use Rattle.clauses.proofs.Layers.{counts}
 
@@ -42,20 +42,6 @@ usable-facing {x} {count} M ls w = go (leZ (pos 0) M)
     go : (top : Bool) → Usable x count (cond top ls (turned (x .h) ls))
     go true = w
     go false = usable-turned ls w
-
-pub faced-layers : (M : ℤ) (h : ℕ) (s : Section) → layersOf (facedSection M h s) ≡ facing M h (layersOf s)
-faced-layers M h s = go (leZ (pos 0) M)
-  where
-    go : (top : Bool) → layersOf (cond top s (turnedSection h s)) ≡ cond top (layersOf s) (turned h (layersOf s))
-    go true = refl
-    go false = turned-layers h s
-
-pub usable-faced : {x : Design} (M : ℤ) (s : Section) → Usable x (s .count) (layersOf s) → Usable x (facedSection M (x .h) s .count) (layersOf (facedSection M (x .h) s))
-usable-faced {x} M s w = go (leZ (pos 0) M)
-  where
-    go : (top : Bool) → Usable x ((cond top s (turnedSection (x .h) s)) .count) (layersOf (cond top s (turnedSection (x .h) s)))
-    go true = w
-    go false = rw (turned-layers (x .h) s) (usable-turned (layersOf s) w)
 
 -- ---- accuracy
 

@@ -17,7 +17,7 @@ use Rattle.equilibrium.specs.declared.Depth.the-variants as depth
 use Rattle.equilibrium.specs.Section.{Counted, counted, accepted}
 use Rattle.equilibrium.specs.Load.{loadRefusal}
 use Rattle.equilibrium.specs.Force.{momentResistance}
-use Rattle.equilibrium.specs.Turned.{turned, turnedSection}
+use Rattle.equilibrium.specs.Turned.{turned}
 use Rattle.equilibrium.specs.Depth.{depthFor}
 use Rattle.clauses.specs.declared.Listed.{Listed}
 use Rattle.clauses.specs.declared.Report.{Report}
@@ -30,9 +30,6 @@ use Rattle.clauses.specs.Verdicts.{numberOf, first, second, third, fourt
 -- the layers as the compressed face sees them: the top for M ≥ 0, and for M < 0 the section turned over
 abbrev pub facing : ℤ → ℕ → List Layer → List Layer
 facing M h ls = cond (leZ (pos 0) M) ls (turned h ls)
-
-abbrev pub facedSection : ℤ → ℕ → Section → Section
-facedSection M h s = cond (leZ (pos 0) M) s (turnedSection h s)
 
 -- u, MRd, VRd,c, dm, As and the five verdicts, for the face compressed
 module _ (x : Design) (ls : List Layer) (load : Load) (u : ℕ) where

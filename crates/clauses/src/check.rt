@@ -12,19 +12,7 @@ ghost use mathlib.Core.Path.{_≡_};
 ghost use Rattle.equilibrium.specs.Section.{layersOf};
 ghost use Rattle.equilibrium.specs.Usable.{Usable, LoadOk};
 ghost use Rattle.equilibrium.specs.Whole.{DepthOk};
-ghost use Rattle.clauses.specs.Check.{facing, facedSection, reportAt, checkFace};
-
-// The section as the compressed face sees it: turned over for M < 0.
-fn faced(x: Design, s: Section, m: i64) -> Section
-    requires { ⌜ Usable x (s .count) (layersOf s) ⌝ }
-    ensures { λ r. ⌜ r ≡ facedSection m (x .h) s ⌝ }
-{
-    if 0 <= m {
-        s
-    } else {
-        equilibrium::turning::turned_over(s, x.h)
-    }
-}
+ghost use Rattle.clauses.specs.Check.{facing, reportAt, checkFace};
 
 // What is reported at the depth u.
 fn report_at(x: Design, s: Section, l: Load, u: u64) -> Report
@@ -59,11 +47,15 @@ pub fn check_face(x: Design, s: Section, l: Load) -> Checked
     }
 }
 
-// An accepted section under a load that passed its tests.
+// An accepted section under a load that passed its tests, as the compressed face sees it: turned over for M < 0.
 pub fn check_accepted(x: Design, s: Section, l: Load) -> Checked
     requires { ⌜ Usable x (s .count) (layersOf s) × LoadOk l ⌝ }
     ensures { λ r. ⌜ r ≡ checkFace x (facing (l .m) (x .h) (layersOf s)) l ⌝ }
 {
-    let f = faced(x, s, l.m);
-    check_face(x, f, l)
+    if 0 <= l.m {
+        check_face(x, s, l)
+    } else {
+        let turned = equilibrium::turning::turned_over(s, x.h);
+        check_face(x, turned, l)
+    }
 }
