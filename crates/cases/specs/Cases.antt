@@ -15,7 +15,7 @@ use Rattle.materials.specs.Table.{rowOf}
 use Rattle.materials.specs.Answer.{answered, materialsOf, opened}
 use Rattle.equilibrium.specs.declared.Section.{Section}
 use Rattle.equilibrium.specs.declared.Load.{Load}
-use Rattle.equilibrium.specs.Section.{accepted}
+use Rattle.equilibrium.specs.Section.{noLayer, accepted}
 use Rattle.equilibrium.specs.Force.{concreteForce, stress, layerForce, steelForce, internalForce, concreteMoment, layerMoment, steelResistance, momentResistance}
 use Rattle.equilibrium.specs.Turned.{turned}
 use Rattle.equilibrium.specs.Depth.{carries, reaches, depthFor, depthIn}
@@ -30,7 +30,7 @@ use Rattle.cases.specs.Case.{Case, Case.material, Case.noMaterial, Case.
 -- a section with one layer of 1,500 mm², C30 and fyk 500 unless said otherwise
 abbrev one : ℕ → ℕ → ℕ → ℕ → Section
 one b h fck d =
-    record { width = pos b; height = pos h; fck = pos fck; fyk = pos 500; count = 1; layers = record { depth = d; area = 1500 } ∷ replicate 15 (record { depth = 0; area = 0 }) }
+    record { width = pos b; height = pos h; fck = pos fck; fyk = pos 500; count = 1; layers = record { depth = d; area = 1500 } ∷ replicate 15 noLayer }
 
 -- section A: 300 by 500, fck 30, fyk 500, one layer of 1,500 at 450
 abbrev A : Section

@@ -12,11 +12,7 @@ use Rattle.arith.proofs.Ring.{#, _⊕_, ring}
 use Rattle.arith.proofs.Test.{both-true, and-assoc, and-idr}
 use Rattle.equilibrium.specs.declared.Layer.{Layer}
 use Rattle.equilibrium.specs.declared.Section.{Section}
-use Rattle.equilibrium.specs.Section.{layersOf, all}
-
--- what stands at a place beyond all
-abbrev pub noLayer : Layer
-noLayer = record { depth = 0; area = 0 }
+use Rattle.equilibrium.specs.Section.{noLayer, layersOf, all}
 
 -- the layer at place i is the next one of those that are counted
 abbrev pub Next : Section → ℕ → Type 0

@@ -16,6 +16,10 @@ use Rattle.equilibrium.specs.declared.Design.{Design}
 use Rattle.equilibrium.specs.declared.Accepted.{Accepted}
 use Rattle.equilibrium.specs.declared.Accepted.the-variants.{Ready, Refused}
 
+-- a place that holds no layer
+abbrev pub noLayer : Layer
+noLayer = record { depth = 0; area = 0 }
+
 -- the counted layers: places beyond the count are never read
 abbrev pub layersOf : Section → List Layer
 layersOf s = take (s .count) (s .layers)

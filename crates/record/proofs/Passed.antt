@@ -11,13 +11,12 @@ use lib.ListN.{getD}
 use lib.Signed.{mag}
 use Rattle.arith.proofs.Bound.{fits64}
 use Rattle.arith.proofs.Test.{both-true}
-use Rattle.equilibrium.specs.Section.{Counted, counted, all, depthOk, areaOk}
+use Rattle.equilibrium.specs.Section.{Counted, counted, all, depthOk, areaOk, noLayer}
 use Rattle.equilibrium.specs.Load.{refusalOf}
 use Rattle.equilibrium.specs.declared.Layer.{Layer}
 use Rattle.equilibrium.specs.declared.Section.{Section}
 use Rattle.equilibrium.specs.declared.Load.{Load}
 use Rattle.equilibrium.proofs.Usable as section
-use Rattle.record.specs.Read.{noLayer}
 
 pub record Passed (c : Counted) (l : Load) : Type 0 where
   pub some : 1 ≤ c .count

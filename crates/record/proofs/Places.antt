@@ -12,7 +12,8 @@ use Rattle.arith.proofs.Test.{is-true}
 use Rattle.equilibrium.specs.declared.Layer.{Layer}
 use Rattle.record.specs.Map.{stands, offset}
 use Rattle.record.specs.Fields.{fieldOf}
-use Rattle.record.specs.Read.{layerAt, isLayer, layersTo, noLayer, filled}
+use Rattle.equilibrium.specs.Section.{noLayer}
+use Rattle.record.specs.Read.{layerAt, isLayer, layersTo, filled}
 
 -- bits 8 to 23 of the table are layers
 pub layer-bit : (k : ℕ) → 8 ≤ k → k < 24 → isLayer (fieldOf k) ≡ true

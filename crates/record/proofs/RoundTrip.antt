@@ -13,7 +13,7 @@ use lib.ListN.{length, getD, take, drop, replicate, length-append}
 use lib.Seq.{take-suc, take-all, take-at, length-take-le}
 use lib.Signed.{mag}
 use Rattle.arith.proofs.Test.{clash, both-true, and-true}
-use Rattle.equilibrium.specs.Section.{Counted, counted, layersOf}
+use Rattle.equilibrium.specs.Section.{Counted, counted, layersOf, noLayer}
 use Rattle.equilibrium.specs.Load.{refusalOf}
 use Rattle.equilibrium.specs.declared.Layer.{Layer}
 use Rattle.equilibrium.specs.declared.Section.{Section}
@@ -21,7 +21,7 @@ use Rattle.equilibrium.specs.declared.Load.{Load}
 use Rattle.record.specs.Bytes.{numberAt, bytesOf, signed, unsigned}
 use Rattle.record.specs.Map.{stands, offset, recordLength}
 use Rattle.record.specs.Fields.{Number, width, height, fck, fyk, axial, moment, shear, Field, number, fieldOf, bitOf}
-use Rattle.record.specs.Read.{numberOf, layerAt, layersTo, noLayer, filled, sectionOf, loadOf, known, complete, answered, readOf}
+use Rattle.record.specs.Read.{numberOf, layerAt, layersTo, filled, sectionOf, loadOf, known, complete, answered, readOf}
 use Rattle.record.specs.Write.{valueOf, mayMiss, isZero, fieldBytes, writes, mapOf, fieldsTo, fields, recordOf, orElse, writeRefusal, written, writtenOf, bufferOf, changed}
 use Rattle.record.specs.RoundTrip.{cleared, readBack}
 use Rattle.record.proofs.Bits.{bit-zero}

@@ -19,13 +19,12 @@ use mir.Val.{toZ, ofZ}
 use Rattle.arith.proofs.Computed.{below}
 use Rattle.arith.proofs.Machine.{field}
 use Rattle.arith.proofs.Test.{clash}
-use Rattle.equilibrium.specs.Section.{Counted}
+use Rattle.equilibrium.specs.Section.{Counted, noLayer}
 use Rattle.equilibrium.specs.declared.Layer.{Layer}
 use Rattle.equilibrium.specs.declared.Load.{Load}
 use Rattle.record.specs.Bytes.{bytesOf, unsigned}
 use Rattle.record.specs.Map.{stands, standing, recordLength, mapWith}
 use Rattle.record.specs.Fields.{Field, number, layer, none, fieldOf, table}
-use Rattle.record.specs.Read.{noLayer}
 use Rattle.record.specs.Write.{layerBytes, fieldBytes, isZero, writes, mapOf, fieldsTo, fields, recordOf}
 use Rattle.record.proofs.Bits.{map-below, map-stands, map-ones, map-none, standing-24}
 use Rattle.record.proofs.Digits.{length-bytes, pair}

@@ -6,7 +6,7 @@ use lib.Dec.{leb}
 use lib.IntN.{ℤ, pos}
 use lib.ListN.{length, replicate}
 use Rattle.arith.specs.Chain.{unless}
-use Rattle.equilibrium.specs.Section.{counted}
+use Rattle.equilibrium.specs.Section.{noLayer, counted}
 use Rattle.equilibrium.specs.Load.{refusalOf}
 use Rattle.equilibrium.specs.declared.Layer.{Layer}
 use Rattle.equilibrium.specs.declared.Section.{Section}
@@ -41,9 +41,6 @@ abbrev pub layersIn : List ℕ → ℕ → List Layer
 layersIn xs m = layersTo xs m (length table)
 
 -- the sixteen places of a section: a record that is read leaves zeros beyond the count
-abbrev pub noLayer : Layer
-noLayer = record { depth = 0; area = 0 }
-
 unfoldable pub filled : List Layer → List Layer
 filled ls = ls ++ replicate (16 - length ls) noLayer
 

@@ -6,7 +6,7 @@ use lib.Dec.{leb, ltb}
 use lib.IntN.{ℤ, pos, negsuc}
 use lib.ListN.{length, getD, drop}
 use Rattle.arith.specs.Chain.{unless}
-use Rattle.equilibrium.specs.Section.{Counted}
+use Rattle.equilibrium.specs.Section.{Counted, noLayer}
 use Rattle.equilibrium.specs.Load.{refusalOf}
 use Rattle.equilibrium.specs.declared.Layer.{Layer}
 use Rattle.equilibrium.specs.declared.Load.{Load}
@@ -14,7 +14,6 @@ use Rattle.record.specs.declared.Written.{Written}
 use Rattle.record.specs.Bytes.{bytesOf, unsigned}
 use Rattle.record.specs.Map.{stands, recordLength, mapWith}
 use Rattle.record.specs.Fields.{Number, width, height, fck, fyk, axial, moment, shear, Field, number, layer, none, table, fieldOf}
-use Rattle.record.specs.Read.{noLayer}
 
 -- the numbers of a section and a load
 abbrev pub valueOf : Counted → Load → Number → ℤ

@@ -10,11 +10,10 @@ ghost use mathlib.Core.Bool.{true, cond};
 ghost use mathlib.Core.Path.{_≡_};
 ghost use Prim.Native.Nat.{_<_, _≤_};
 ghost use lib.ListN.{length, getD};
-ghost use Rattle.equilibrium.specs.Section.{layersOf, counted};
+ghost use Rattle.equilibrium.specs.Section.{layersOf, counted, noLayer};
 ghost use Rattle.record.specs.Bytes.{bytesOf, placed, unsigned};
 ghost use Rattle.record.specs.Map.{recordLength};
 ghost use Rattle.record.specs.Fields.{fieldOf};
-ghost use Rattle.record.specs.Read.{noLayer};
 ghost use Rattle.record.specs.Write.{isZero, layerBytes, fieldBytes, writes, mapOf, fields, writtenOf, bufferOf};
 
 // The bit of a load: the writer omits a zero.

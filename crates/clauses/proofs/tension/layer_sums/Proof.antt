@@ -7,8 +7,8 @@ use lib.ListN.{length-map, take, drop, getD}
 use borrow.Author.Needs.{needs}
 use Rattle.equilibrium.specs.declared.Layer.{Layer}
 use Rattle.equilibrium.specs.declared.Section.{Section}
-use Rattle.equilibrium.specs.Section.{layersOf}
-use Rattle.equilibrium.proofs.Walk.{noLayer, next, over}
+use Rattle.equilibrium.specs.Section.{layersOf, noLayer}
+use Rattle.equilibrium.proofs.Walk.{next, over}
 use Rattle.clauses.specs.Tension.{tensionLayers, total}
 use Rattle.clauses.proofs.Layers.{Summed, sum-step, sum-done, As-high, moment-most, areaOf-high}
 use Rattle.clauses.proofs.tension.layer_sums.Statement.{statement}

@@ -12,12 +12,12 @@ use mir.Val.{toZ}
 use Rattle.arith.specs.Integer.{Within}
 use Rattle.arith.proofs.Bound.{up-to, add-in}
 use Rattle.arith.proofs.Machine.{M, local, call, _⊞_, fits, value}
-use Rattle.equilibrium.specs.Section.{layersOf}
+use Rattle.equilibrium.specs.Section.{layersOf, noLayer}
 use Rattle.equilibrium.specs.Usable.{LayerOk}
 use Rattle.equilibrium.specs.Force.{steelResistance}
 use Rattle.equilibrium.proofs.Sizes.{layer-bound, layer-moment-in}
 use Rattle.equilibrium.proofs.Usable.{layer-at-ok}
-use Rattle.equilibrium.proofs.Walk.{noLayer, Next, next, over, sum-step, sum-done}
+use Rattle.equilibrium.proofs.Walk.{Next, next, over, sum-step, sum-done}
 use Rattle.equilibrium.proofs.resistance.steel_resistance.Statement.{statement}
 use Rattle.equilibrium.proofs.resistance.steel_resistance.Tie as tie
 

@@ -7,13 +7,13 @@ use lib.ListN.{take, length, length-map, length-set, getD}
 use Rattle.arith.proofs.Machine.{nat, value}
 use Rattle.equilibrium.specs.declared.Layer.{Layer}
 use Rattle.equilibrium.specs.declared.Section.{Section}
-use Rattle.equilibrium.specs.Section.{layersOf}
+use Rattle.equilibrium.specs.Section.{layersOf, noLayer}
 use Rattle.equilibrium.specs.Usable.{LayerOk}
 use Rattle.equilibrium.specs.Whole.{startOf, shareOf, Columns, Place}
 use Rattle.equilibrium.proofs.Columns.{columns-more}
 use Rattle.equilibrium.proofs.Sizes.{start-in, share-in}
 use Rattle.equilibrium.proofs.Usable.{layer-at-ok}
-use Rattle.equilibrium.proofs.Walk.{noLayer, Next, next}
+use Rattle.equilibrium.proofs.Walk.{Next, next}
 use Rattle.equilibrium.proofs.search.fill_columns.Statement.{statement}
 use Rattle.equilibrium.proofs.search.fill_columns.Tie as tie
 

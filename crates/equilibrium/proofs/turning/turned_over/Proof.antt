@@ -11,10 +11,10 @@ use Rattle.arith.proofs.Machine.{field}
 use Rattle.arith.proofs.Test.{both-true}
 use Rattle.equilibrium.specs.declared.Layer.{Layer}
 use Rattle.equilibrium.specs.declared.Section.{Section}
-use Rattle.equilibrium.specs.Section.{layersOf, depthOk}
+use Rattle.equilibrium.specs.Section.{layersOf, depthOk, noLayer}
 use Rattle.equilibrium.specs.Turned.{turnedFirst, withLayers}
 use Rattle.equilibrium.proofs.Turned.{place, still}
-use Rattle.equilibrium.proofs.Walk.{noLayer, Next, next, all-at}
+use Rattle.equilibrium.proofs.Walk.{Next, next, all-at}
 use Rattle.equilibrium.proofs.turning.turned_over.Statement.{statement}
 use Rattle.equilibrium.proofs.turning.turned_over.Tie as tie
 
