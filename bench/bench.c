@@ -1,34 +1,29 @@
 /* How quick the engine is beside plain C of the same work.
  *
- *   bench [SEED]             compares every answer, then times Check and Find a depth
- *   bench list PROGRAM       times the list program, records per second
+ *   bench [SEED]    compares every answer, then times Check and Find a depth (list.c times the list program)
  *
  * Answers: random sections and loads, with every refusal of the two calls and values at the limits among them, and the loads at which
  * answers turn (the force at a depth 1 N less and more, MRd 1 N·mm less and more). A difference is printed and ends the run with 1.
  *
- * Times: SECTIONS accepted sections with loads, the same for all; a round goes through them CALLS times with the engine, then with plain C
- * by pointer, then with plain C by value, so that whatever else the machine does falls on each. Of ROUNDS rounds the best is taken, since
- * a disturbance only ever adds; each round lies at another place of the stack, which moves the time of a copy by some percent. Half of the
- * loads compress the bottom. ratio = time of plain C / time of the engine: above 1 the engine is the quicker. Times are printed, never
- * asserted.
+ * Times: accepted sections with loads, the same for all, in two ways. "Over and over" are FEW sections, gone through again and again: the
+ * processor has learnt which way every branch of each goes, as it has of nothing that is checked once. "In turn" are SECTIONS, each seen
+ * once in a round: the work of a lot, or of a search over layouts. A round goes through them with the engine, then with plain C by pointer,
+ * then by value, so that whatever else the machine does falls on each. Of all rounds the best is taken, since a disturbance only ever
+ * adds; each round lies at another place of the stack, which moves the time of a copy by some percent. Half of the loads compress the
+ * bottom. ratio = time of plain C / time of the engine: above 1 the engine is the quicker. Times are printed, never asserted.
  *
- * "plain" finds r and q as the depth is found, by a least and a greatest candidate. The engine's rule for these two asks as many times
- * whatever it finds, which a compiler turns into code without branches; "same roots" is plain C by pointer with that rule too. */
+ * "plain" finds the depth, r and q by a least and a greatest candidate; "same roots" is plain C by pointer with r and q from the engine's
+ * guess, tested as the engine tests it. */
 #include <alloca.h>
-#include <fcntl.h>
-#include <spawn.h>
 #include <stdbool.h>
 #include <stdio.h>
 #include <stdlib.h>
 #include <string.h>
-#include <sys/wait.h>
 #include <time.h>
-#include <unistd.h>
 #include "bench.h"
 
-#define SECTIONS 512
-#define CALLS 8
-#define ROUNDS 100
+#define SECTIONS 20000
+#define FEW 300
 #define COMPARED 400000
 
 static const int64_t classes[] = { 12, 16, 20, 25, 30, 35, 40, 45, 50, 55, 60, 70, 80, 90 };
@@ -62,8 +57,8 @@ static void print_check(const char *who, salwoerk_report a)
 
 static void print_section(const salwoerk_section *s, salwoerk_load l)
 {
-    printf("b %lld h %lld fck %lld fyk %lld N %lld M %lld V %lld count %zu:", (long long)s->width, (long long)s->height, (long long)s->fck,
-        (long long)s->fyk, (long long)l.n, (long long)l.m, (long long)l.v, s->count);
+    printf("b %lld h %lld fck %lld fyk %lld N %lld M %lld V %lld count %zu:", (long long)s->width, (long long)s->height, (long long)s->grade.fck,
+        (long long)s->grade.fyk, (long long)l.n, (long long)l.m, (long long)l.v, s->count);
     for (size_t i = 0; i < s->count && i < 16; i++) printf(" %u/%u", s->layers[i].depth, s->layers[i].area);
     printf("\n");
 }
@@ -99,8 +94,8 @@ static void random_section(salwoerk_section *s, size_t count)
 {
     s->width = between(50, 2000);
     s->height = between(50, 2000);
-    s->fck = classes[below(14)];
-    s->fyk = between(400, 600);
+    s->grade.fck = classes[below(14)];
+    s->grade.fyk = between(400, 600);
     s->count = count;
     for (size_t i = 0; i < 16; i++) {
         s->layers[i].depth = (uint32_t)between(1, s->height - 1);
@@ -123,8 +118,8 @@ static void damage(salwoerk_section *s, salwoerk_load *l)
     switch (below(9)) {
     case 0: s->width = sizes[below(11)]; break;
     case 1: s->height = sizes[below(11)]; break;
-    case 2: s->fck = fcks[below(13)]; break;
-    case 3: s->fyk = fyks[below(10)]; break;
+    case 2: s->grade.fck = fcks[below(13)]; break;
+    case 3: s->grade.fyk = fyks[below(10)]; break;
     case 4: s->count = counts[below(7)]; break;
     case 5: any->depth = depths[below(6)]; break;
     case 6: any->area = areas[below(6)]; break;
@@ -209,12 +204,16 @@ static double now(void)
 
 static volatile uint64_t sink;
 
+/* The sections that are gone through, how often in a round, and how many rounds. */
+typedef struct { const char *name; int sections, calls, rounds; } way;
+static const way ways[] = { { "the same 300 sections over and over", FEW, 16, 100 }, { "20,000 sections in turn", SECTIONS, 1, 30 } };
+
 /* The time of one call in nanoseconds, if it is the best so far. */
-#define TIME(best, call) do { \
+#define TIME(best, w, call) do { \
     uint64_t sum = 0; \
     double began = now(); \
-    for (int j = 0; j < CALLS; j++) for (int k = 0; k < SECTIONS; k++) sum += (call); \
-    double t = (now() - began) / ((double)CALLS * SECTIONS); \
+    for (int j = 0; j < (w).calls; j++) for (int k = 0; k < (w).sections; k++) sum += (call); \
+    double t = (now() - began) / ((double)(w).calls * (w).sections); \
     sink = sum; \
     if (t < best) best = t; \
 } while (0)
@@ -226,106 +225,59 @@ static void row(size_t count, const double *t)
     printf("%6zu %10.0f %7.1f | %6.1f %6.2f | %8.1f %6.2f", count, 1e9 / t[0], t[0], t[1], t[1] / t[0], t[2], t[2] / t[0]);
 }
 
+/* Check by the engine, plain C by pointer, by value and with the same roots; Find a depth by the first three. */
+typedef struct { double check[4], depth[3]; } measured;
+
+static measured measure(way w)
+{
+    measured m;
+    for (int i = 0; i < 4; i++) m.check[i] = 1e18;
+    for (int i = 0; i < 3; i++) m.depth[i] = 1e18;
+    for (int round = 0; round < w.rounds; round++) {
+        volatile char *moved = alloca((size_t)(16 + 16 * below(256)));
+        moved[0] = 0;
+        TIME(m.check[0], w, salwoerk_check(sections[k], loads[k]).mrd);
+        TIME(m.check[1], w, plain_check(&sections[k], &loads[k]).mrd);
+        TIME(m.check[2], w, plain_check_by_value(sections[k], loads[k]).mrd);
+        TIME(m.check[3], w, same_check(&sections[k], &loads[k]).mrd);
+        TIME(m.depth[0], w, salwoerk_find_depth(sections[k], loads[k].n).depth);
+        TIME(m.depth[1], w, plain_find_depth(&sections[k], loads[k].n).depth);
+        TIME(m.depth[2], w, plain_find_depth_by_value(sections[k], loads[k].n).depth);
+    }
+    return m;
+}
+
 static void times(void)
 {
     static const size_t counts[] = { 1, 4, 8, 16 };
-    double check[4][4], depth[4][3];
+    measured m[2][4];
     for (int c = 0; c < 4; c++) {
-        for (int i = 0; i < 3; i++) check[c][i] = depth[c][i] = 1e18;
-        check[c][3] = 1e18;
         fill(counts[c]);
-        for (int round = 0; round < ROUNDS; round++) {
-            volatile char *moved = alloca((size_t)(16 + 16 * below(256)));
-            moved[0] = 0;
-            TIME(check[c][0], salwoerk_check(sections[k], loads[k]).mrd);
-            TIME(check[c][1], plain_check(&sections[k], &loads[k]).mrd);
-            TIME(check[c][2], plain_check_by_value(sections[k], loads[k]).mrd);
-            TIME(check[c][3], same_check(&sections[k], &loads[k]).mrd);
-            TIME(depth[c][0], salwoerk_find_depth(sections[k], loads[k].n).depth);
-            TIME(depth[c][1], plain_find_depth(&sections[k], loads[k].n).depth);
-            TIME(depth[c][2], plain_find_depth_by_value(sections[k], loads[k].n).depth);
+        for (int w = 0; w < 2; w++) m[w][c] = measure(ways[w]);
+    }
+    printf("times in ns of a call; ratio = plain C / engine\n");
+    for (int w = 0; w < 2; w++) {
+        printf("Check, %s\n%s | same roots  ratio\n", ways[w].name, heading);
+        for (int c = 0; c < 4; c++) {
+            row(counts[c], m[w][c].check);
+            printf(" | %10.1f %6.2f\n", m[w][c].check[3], m[w][c].check[3] / m[w][c].check[0]);
         }
     }
-    printf("times in ns of a call; ratio = plain C / engine\nCheck\n%s | same roots  ratio\n", heading);
-    for (int c = 0; c < 4; c++) {
-        row(counts[c], check[c]);
-        printf(" | %10.1f %6.2f\n", check[c][3], check[c][3] / check[c][0]);
-    }
-    printf("Find a depth\n%s\n", heading);
-    for (int c = 0; c < 4; c++) {
-        row(counts[c], depth[c]);
-        printf("\n");
-    }
-}
-
-/* ---- the list program: one input of records with four layers, as many as 65,536 bytes hold; the time of a whole run, and without that
- * of a run on empty input, which is the start of a process. */
-static unsigned char *put(unsigned char *at, uint64_t x, int bytes)
-{
-    for (int i = bytes; i > 0; i--) *at++ = (unsigned char)(x >> (8 * (i - 1)));
-    return at;
-}
-
-static unsigned char *put_record(unsigned char *at, const salwoerk_section *s, salwoerk_load l)
-{
-    at = put(at, 0x7f | ((1u << s->count) - 1) << 8, 4);
-    int64_t fields[] = { s->width, s->height, s->fck, s->fyk, l.n, l.m, l.v };
-    for (int i = 0; i < 7; i++) at = put(at, (uint64_t)fields[i], 8);
-    for (size_t i = 0; i < s->count; i++) at = put(put(at, s->layers[i].depth, 4), s->layers[i].area, 4);
-    return at;
-}
-
-/* The best of so many runs, in nanoseconds. */
-static double run_program(char *program, const char *input, int runs)
-{
-    double best = 1e18;
-    char *words[] = { program, NULL }, *none[] = { NULL };
-    for (int i = 0; i < runs; i++) {
-        posix_spawn_file_actions_t files;
-        pid_t child;
-        int status = 0;
-        posix_spawn_file_actions_init(&files);
-        posix_spawn_file_actions_addopen(&files, 0, input, O_RDONLY, 0);
-        posix_spawn_file_actions_addopen(&files, 1, "/dev/null", O_WRONLY, 0);
-        double began = now();
-        if (posix_spawn(&child, program, &files, NULL, words, none) || waitpid(child, &status, 0) != child || status) {
-            printf("%s did not run\n", program);
-            exit(1);
+    for (int w = 0; w < 2; w++) {
+        printf("Find a depth, %s\n%s\n", ways[w].name, heading);
+        for (int c = 0; c < 4; c++) {
+            row(counts[c], m[w][c].depth);
+            printf("\n");
         }
-        double t = now() - began;
-        posix_spawn_file_actions_destroy(&files);
-        if (t < best) best = t;
     }
-    return best;
-}
-
-static void list_times(char *program)
-{
-    static unsigned char input[65536];
-    unsigned char *at = input;
-    size_t records = 0;
-    fill(4);
-    while (input + sizeof input - at >= 92) at = put_record(at, &sections[records % SECTIONS], loads[records % SECTIONS]), records++;
-    char name[] = "/tmp/bench-records-XXXXXX";
-    int file = mkstemp(name);
-    if (file < 0 || write(file, input, (size_t)(at - input)) != at - input || close(file)) exit(1);
-    double whole = run_program(program, name, 200), start = run_program(program, "/dev/null", 200);
-    unlink(name);
-    printf("list program, %zu records of four layers: %.0f records/s, %.0f without the start of the process (%.2f ms)\n", records,
-        (double)records * 1e9 / whole, (double)records * 1e9 / (whole - start), start / 1e6);
 }
 
 int main(int count, char **words)
 {
-    bool list = count == 3 && !strcmp(words[1], "list");
-    uint64_t seed = !list && count > 1 ? strtoull(words[1], NULL, 10) : (uint64_t)time(NULL);
+    uint64_t seed = count > 1 ? strtoull(words[1], NULL, 10) : (uint64_t)time(NULL);
     state = seed * 0x9e3779b97f4a7c15u | 1;
     plain_start();
     same_start();
-    if (list) {
-        list_times(words[2]);
-        return 0;
-    }
     printf("seed %llu\n", (unsigned long long)seed);
     compare_all();
     times();

@@ -1,4 +1,4 @@
-/* What the benchmark compares: the engine's calls, from target/staticlib/libengine.a, and the same calls in plain C, from plain.c. */
+/* What the benchmark compares: the engine's calls, from target/lib/libsalwoerk.a, and the same calls in plain C, from plain.c. */
 #ifndef BENCH_H
 #define BENCH_H
 

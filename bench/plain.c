@@ -1,6 +1,6 @@
 /* Find a depth and Check in plain C, as a C programmer would write them who wants them quick: the measure that the engine is held to.
  * The same tests in the same sequence, the same rule of halving without a division, r and q by that rule too, K from a table.
- * With -DSAME it is Check with r and q by the rule that the engine has for them: a span that is halved whatever the trial says.
+ * With -DSAME it is Check with r and q as the engine has them: a guess by one Halley step, tested by the definition, and halving where it fails.
  * Every number fits int64_t (the products are taken in an order in which they do), so __int128 is nowhere needed. */
 #include <stdbool.h>
 #include "bench.h"
@@ -36,12 +36,12 @@ static inline int look_up(int64_t fck, int64_t fyk, struct materials *m)
     return 0;
 }
 
-/* Tests 1 to 7. */
+/* The section tests. */
 static inline int accept(const salwoerk_section *s, struct materials *m)
 {
     if (s->width < 50 || s->width > 2000) return 1;
     if (s->height < 50 || s->height > 2000) return 2;
-    int k = look_up(s->fck, s->fyk, m);
+    int k = look_up(s->grade.fck, s->grade.fyk, m);
     if (k) return k;
     if (s->count < 1 || s->count > 16) return 5;
     for (size_t i = 0; i < s->count; i++)
@@ -107,16 +107,6 @@ static inline int64_t moment_resistance(const salwoerk_layer *layers, size_t cou
 }
 
 /* The greatest k up to most with a·k² or a·k³ at most y. */
-#ifdef SAME
-#define GREATEST(test) \
-    int64_t k = 0, span = most; \
-    while (0 < span) { \
-        int64_t rest = span / 2, trial = k + (span - rest); \
-        span = rest; \
-        if (test) k = trial; \
-    } \
-    return k
-#else
 #define GREATEST(test) \
     int64_t lo = 0, hi = most; \
     while (lo < hi) { \
@@ -124,9 +114,49 @@ static inline int64_t moment_resistance(const salwoerk_layer *layers, size_t cou
         if (test) lo = trial; else hi = trial - 1; \
     } \
     return lo
+static inline int64_t halved_square(int64_t a, int64_t y, int64_t most) { GREATEST(a * trial * trial <= y); }
+static inline int64_t halved_cube(int64_t a, int64_t y, int64_t most) { GREATEST(a * trial * trial * trial <= y); }
+
+#ifdef SAME
+/* About the cube root of z, from 8 to 2^38: z = 8^e·(m/8 and a rest), m from 8 to 63; one step of Halley's rule. */
+static inline int64_t cube_guess(uint64_t z)
+{
+    static const uint8_t first[64] = {   /* 128 times the cube root of (m + 1/2)/8 */
+        0, 0, 0, 0, 0, 0, 0, 0, 131, 136, 140, 144, 149, 152, 156, 160, 163, 166, 169, 172, 175, 178, 181, 183, 186, 188, 191, 193, 195,
+        198, 200, 202, 204, 206, 208, 210, 212, 214, 216, 218, 220, 222, 223, 225, 227, 228, 230, 232, 233, 235, 237, 238, 240, 241, 243,
+        244, 246, 247, 248, 250, 251, 253, 254, 255 };
+    unsigned e = (63 - (unsigned)__builtin_clzll(z)) / 3;
+    uint64_t g = (uint64_t)first[z >> (3 * e - 3)] << e >> 7, p = g * g * g;
+    return (int64_t)(g * (p + 2 * z) / (2 * p + z));
+}
+
+/* About the square root of z, from 16 to 2^30. */
+static inline int64_t square_guess(uint64_t z)
+{
+    static const uint8_t first[64] = {   /* 128 times the square root of (m + 1/2)/16 */
+        0, 0, 0, 0, 0, 0, 0, 0, 0, 0, 0, 0, 0, 0, 0, 0, 130, 134, 138, 141, 145, 148, 152, 155, 158, 162, 165, 168, 171, 174, 177, 180, 182,
+        185, 188, 191, 193, 196, 199, 201, 204, 206, 209, 211, 213, 216, 218, 221, 223, 225, 227, 230, 232, 234, 236, 238, 241, 243, 245,
+        247, 249, 251, 253, 255 };
+    unsigned e = (63 - (unsigned)__builtin_clzll(z)) / 2;
+    uint64_t g = (uint64_t)first[z >> (2 * e - 4)] << e >> 7, p = g * g;
+    return (int64_t)(g * (p + 3 * z) / (3 * p + z));
+}
+
+static inline int64_t square_root(int64_t a, int64_t y, int64_t most)
+{
+    int64_t k = square_guess((uint64_t)y / (uint64_t)a | 1024);
+    return k <= most && a * k * k <= y && y < a * (k + 1) * (k + 1) ? k : halved_square(a, y, most);
+}
+
+static inline int64_t cube_root(int64_t a, int64_t y, int64_t most)
+{
+    int64_t k = cube_guess((uint64_t)y / (uint64_t)a | 512);
+    return k <= most && a * k * k * k <= y && y < a * (k + 1) * (k + 1) * (k + 1) ? k : halved_cube(a, y, most);
+}
+#else
+static inline int64_t square_root(int64_t a, int64_t y, int64_t most) { return halved_square(a, y, most); }
+static inline int64_t cube_root(int64_t a, int64_t y, int64_t most) { return halved_cube(a, y, most); }
 #endif
-static inline int64_t square_root(int64_t a, int64_t y, int64_t most) { GREATEST(a * trial * trial <= y); }
-static inline int64_t cube_root(int64_t a, int64_t y, int64_t most) { GREATEST(a * trial * trial * trial <= y); }
 
 /* K for dm 200 to 1,999, made once from its definition. */
 static uint16_t factors[1800];
@@ -134,7 +164,7 @@ static uint16_t factors[1800];
 static void start(void)
 {
     for (int dm = 200; dm < 2000; dm++)
-        factors[dm - 200] = (uint16_t)(1000 + square_root(dm, 200000000, 1000));
+        factors[dm - 200] = (uint16_t)(1000 + halved_square(dm, 200000000, 1000));
 }
 
 static inline int64_t shear_resistance(int64_t b, int64_t h, int64_t fck, int64_t g, int64_t n, int64_t area, int64_t dm)
@@ -162,13 +192,13 @@ static inline salwoerk_report report(const salwoerk_layer *layers, const salwoer
         all += layers[i].area;
     }
     int64_t dm = area ? moment / area : 0;
-    int64_t vrd = shear_resistance(b, h, s->fck, m->g, l->n, area, dm);
+    int64_t vrd = shear_resistance(b, h, s->grade.fck, m->g, l->n, area, dm);
     return (salwoerk_report){
         0, (uint64_t)u, mrd, (uint64_t)vrd, (uint64_t)dm, (uint64_t)area,
         { magnitude(l->m) > mrd,
-        !area ? 2 : 10 * u > (s->fck <= 50 ? 45 : 35) * dm,
+        !area ? 2 : 10 * u > (s->grade.fck <= 50 ? 45 : 35) * dm,
         !area ? 2 : magnitude(l->v) > vrd,
-        !area ? 2 : 26 * m->t * b * dm > 1000 * area * s->fyk || 13 * b * dm > 10000 * area,
+        !area ? 2 : 26 * m->t * b * dm > 1000 * area * s->grade.fyk || 13 * b * dm > 10000 * area,
         25 * all > b * h },
     };
 }

@@ -1,20 +1,29 @@
 /* Section A of the scope document under M 200,000,000 N mm and V 80,000 N: depth, resistances and verdicts.
- *     gcc -I include examples/check.c target/staticlib/libengine.a -o check && ./check
+ *     ./build-library
+ *     gcc -I include examples/check.c target/lib/libsalwoerk.a -o check && ./check
  */
 #include <stdio.h>
 #include "salwoerk.h"
 
 int main(void)
 {
-    salwoerk_section a = {.width = 300, .height = 500, .fck = 30, .fyk = 500, .count = 1, .layers = {{450, 1500}}};
-    salwoerk_report r = salwoerk_check(a, (salwoerk_load){.n = 0, .m = 200000000, .v = 80000});
+    salwoerk_section a = SALWOERK_SECTION_INIT;
+    salwoerk_load load = { 0, 200000000, 80000 };
+    a.width = 300;
+    a.height = 500;
+    a.grade.fck = 30;
+    a.grade.fyk = 500;
+    a.count = 1;
+    a.layers[0].depth = 450;
+    a.layers[0].area = 1500;
+
+    salwoerk_report r = salwoerk_check(a, load);
     if (r.refusal) {
-        printf("refused: %d\n", (int)r.refusal);
+        printf("refused, %d: %s\n", (int)r.refusal, salwoerk_refusal_text(r.refusal));
         return 1;
     }
-    printf("u %.1f mm, MRd %lld N mm, VRd,c %d N, dm %d mm, As %d mm2, verdicts", r.u / 10.0, (long long)r.mrd, (int)r.vrd, (int)r.dm, (int)r.area);
-    for (int i = 0; i < 5; i++)
-        printf(" %d", (int)r.verdicts[i]);
-    printf("\n");
+    printf("u %.1f mm, MRd %lld N mm, VRd,c %d N, dm %d mm, As %d mm2\n", (double)r.u / 10, (long long)r.mrd, (int)r.vrd, (int)r.dm, (int)r.area);
+    for (size_t i = 0; i < SALWOERK_VERDICTS; i++)
+        printf("%s, %s: %s\n", salwoerk_verdict_clause(i), salwoerk_verdict_question(i), salwoerk_verdict_text(r.verdicts[i]));
     return 0;
 }

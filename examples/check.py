@@ -1,8 +1,8 @@
 #!/usr/bin/env python3
 """Section A of the scope document through the C library, by ctypes.
 
-    gcc -shared -o libsalwoerk.so -Wl,--whole-archive target/staticlib/libengine.a -Wl,--no-whole-archive
-    python3 examples/check.py ./libsalwoerk.so
+    ./build-library
+    python3 examples/check.py target/lib/libsalwoerk.so
 """
 
 import ctypes
@@ -14,9 +14,12 @@ class Layer(ctypes.Structure):
     _fields_ = [("depth", c_uint32), ("area", c_uint32)]
 
 
+class Grade(ctypes.Structure):
+    _fields_ = [("fck", c_int64), ("fyk", c_int64)]
+
+
 class Section(ctypes.Structure):
-    _fields_ = [("layers", Layer * 16), ("width", c_int64), ("height", c_int64),
-                ("fck", c_int64), ("fyk", c_int64), ("count", c_size_t)]
+    _fields_ = [("layers", Layer * 16), ("width", c_int64), ("height", c_int64), ("grade", Grade), ("count", c_size_t)]
 
 
 class Load(ctypes.Structure):
@@ -29,14 +32,12 @@ class Report(ctypes.Structure):
 
 
 def main():
-    library = ctypes.CDLL(sys.argv[1])
-    check = library.salwoerk_check
+    check = ctypes.CDLL(sys.argv[1]).salwoerk_check
     check.argtypes, check.restype = [Section, Load], Report
-    section = Section(width=300, height=500, fck=30, fyk=500, count=1)
+    section = Section(width=300, height=500, grade=Grade(fck=30, fyk=500), count=1)
     section.layers[0] = Layer(depth=450, area=1500)
     report = check(section, Load(n=0, m=200_000_000, v=80_000))
-    print(report.refusal, report.u, report.mrd, report.vrd, report.dm, report.area,
-          *report.verdicts)
+    print(report.refusal, report.u, report.mrd, report.vrd, report.dm, report.area, *report.verdicts)
 
 
 if __name__ == "__main__":

@@ -1,17 +1,12 @@
-/* The section engine for C: rectangular reinforced concrete sections by EN 1992-1-1.
+/* The section engine for C and C++: rectangular reinforced concrete sections by EN 1992-1-1.
  *
- * Every call takes any values and answers; none has a precondition beyond a valid pointer and length. A refused call answers its number
- * with zeros in every other field and verdicts 2, save the length of a reading where one is named.
+ * ./build-library makes libsalwoerk.a and libsalwoerk.so, for x86-64 Linux with glibc.
  *
- * Refusals:
- *    1 width not 50 to 2,000 mm         2 height not 50 to 2,000 mm      3 fck not in Table 3.1 (12 to 90)
- *    4 fyk not 400 to 600 N/mm2         5 number of layers not 1 to 16   6 a layer's depth not 1 to h-1 mm
- *    7 a layer's area not 1 to 20,000 mm2
- *    8 N beyond 500,000,000 N           9 M beyond 1,000,000,000,000 N mm   10 V beyond 500,000,000 N   (either sign)
- *   11 N below the internal force at depth 1   12 N above the internal force at depth 10h
- *   13 a depth not in 1 to 10h
- *   20 fewer than 4 bytes   21 bit 7 or one of 24 to 31 of the map stands   22 fewer bytes than the map calls for
- *   23 one of bits 0 to 3 absent   25 the buffer is shorter than the record
+ * Every call takes any numbers and answers. A refused call answers its number with zeros in every other field and verdicts 2, save the
+ * length of a reading where one is named. What the compiler cannot see is yours: a pointer is not NULL and is valid for the length beside it,
+ * and the bytes that a call reads must not overlap those that it writes.
+ *
+ * The calls keep nothing between them, and threads may make them at the same time.
  */
 #ifndef SALWOERK_H
 #define SALWOERK_H
@@ -19,58 +14,182 @@
 #include <stddef.h>
 #include <stdint.h>
 
+/* Of this header: MAJOR changes where a caller must be compiled again, MINOR where something is added, PATCH else. */
+#define SALWOERK_VERSION_MAJOR 1
+#define SALWOERK_VERSION_MINOR 0
+#define SALWOERK_VERSION_PATCH 0
+#define SALWOERK_VERSION (SALWOERK_VERSION_MAJOR * 10000 + SALWOERK_VERSION_MINOR * 100 + SALWOERK_VERSION_PATCH)
+
 #ifdef __cplusplus
 extern "C" {
 #endif
 
+/* ---- what a call takes */
+
+#define SALWOERK_LAYERS 16
+#define SALWOERK_VERDICTS 5
+
 /* A layer of steel: depth from the top face in mm, area in mm2. */
 typedef struct { uint32_t depth, area; } salwoerk_layer;
 
-/* Sizes in mm, strengths in N/mm2. Only the first `count` layers are read. */
+/* Strengths of concrete and steel in N/mm2. */
+typedef struct { int64_t fck, fyk; } salwoerk_grade;
+
+/* Width and height in mm. Only the first `count` layers are read. */
 typedef struct {
-    salwoerk_layer layers[16];
-    int64_t width, height, fck, fyk;
+    salwoerk_layer layers[SALWOERK_LAYERS];
+    int64_t width, height;
+    salwoerk_grade grade;
     size_t count;
 } salwoerk_section;
+
+/* No layers and zeros; a field that is added later has here the value that its absence means. Start every section so:
+ *     salwoerk_section a = SALWOERK_SECTION_INIT; */
+#define SALWOERK_SECTION_INIT { { { 0, 0 } }, 0, 0, { 0, 0 }, 0 }
 
 /* N and V in newtons, N positive in compression; M in N mm about mid-height, positive where it compresses the top. */
 typedef struct { int64_t n, m, v; } salwoerk_load;
 
-/* Find a depth: the neutral axis in tenths of a millimetre from the top, which is compressed. Refusals 1 to 8, 11, 12. */
+/* ---- refusals and verdicts */
+
+/* The `refusal` of an answer is 0 or one of these. The first test of a call's sequence that fails gives it; the sequence stands with the call.
+ * The section tests are 1 2 3 4 5 6 7, the load tests 8 9 10. */
+enum salwoerk_refusal {
+    SALWOERK_ACCEPTED = 0,
+    SALWOERK_WIDTH = 1,
+    SALWOERK_HEIGHT = 2,
+    SALWOERK_CONCRETE = 3,
+    SALWOERK_STEEL = 4,
+    SALWOERK_LAYER_COUNT = 5,
+    SALWOERK_LAYER_DEPTH = 6,
+    SALWOERK_LAYER_AREA = 7,
+    SALWOERK_AXIAL_FORCE = 8,
+    SALWOERK_BENDING_MOMENT = 9,
+    SALWOERK_SHEAR_FORCE = 10,
+    SALWOERK_BELOW_RANGE = 11,
+    SALWOERK_ABOVE_RANGE = 12,
+    SALWOERK_DEPTH = 13,
+    SALWOERK_NO_MAP = 20,
+    SALWOERK_UNKNOWN_BIT = 21,
+    SALWOERK_CUT_RECORD = 22,
+    SALWOERK_MISSING_FIELD = 23,
+    SALWOERK_SHORT_BUFFER = 25,
+    SALWOERK_LONG_INPUT = 26 /* of the list program alone */
+};
+
+static inline const char *salwoerk_refusal_text(uint64_t refusal)
+{
+    switch (refusal) {
+    case SALWOERK_ACCEPTED: return "accepted";
+    case SALWOERK_WIDTH: return "width not 50 to 2,000 mm";
+    case SALWOERK_HEIGHT: return "height not 50 to 2,000 mm";
+    case SALWOERK_CONCRETE: return "fck not in Table 3.1 (12 to 90 N/mm2)";
+    case SALWOERK_STEEL: return "fyk not 400 to 600 N/mm2";
+    case SALWOERK_LAYER_COUNT: return "number of layers not 1 to 16";
+    case SALWOERK_LAYER_DEPTH: return "a layer's depth not 1 to h-1 mm";
+    case SALWOERK_LAYER_AREA: return "a layer's area not 1 to 20,000 mm2";
+    case SALWOERK_AXIAL_FORCE: return "N beyond 500,000,000 N, either sign";
+    case SALWOERK_BENDING_MOMENT: return "M beyond 1,000,000,000,000 N mm, either sign";
+    case SALWOERK_SHEAR_FORCE: return "V beyond 500,000,000 N, either sign";
+    case SALWOERK_BELOW_RANGE: return "N below the internal force at depth 1";
+    case SALWOERK_ABOVE_RANGE: return "N above the internal force at depth 10h";
+    case SALWOERK_DEPTH: return "depth not 1 to 10h tenths of a millimetre";
+    case SALWOERK_NO_MAP: return "fewer than 4 bytes";
+    case SALWOERK_UNKNOWN_BIT: return "bit 7 or one of 24 to 31 of the map stands";
+    case SALWOERK_CUT_RECORD: return "fewer bytes than the map calls for";
+    case SALWOERK_MISSING_FIELD: return "one of bits 0 to 3 absent";
+    case SALWOERK_SHORT_BUFFER: return "the buffer is too short";
+    case SALWOERK_LONG_INPUT: return "more than 65,536 bytes of input";
+    default: return "no refusal of this version";
+    }
+}
+
+/* The clause of EN 1992-1-1 behind a refusal: "" where its bound is the engine's own. */
+static inline const char *salwoerk_refusal_clause(uint64_t refusal)
+{
+    switch (refusal) {
+    case SALWOERK_CONCRETE: return "Table 3.1";
+    case SALWOERK_STEEL: return "3.2.2(3)";
+    case SALWOERK_BELOW_RANGE:
+    case SALWOERK_ABOVE_RANGE:
+    case SALWOERK_DEPTH: return "6.1";
+    default: return "";
+    }
+}
+
+enum salwoerk_verdict { SALWOERK_PASS = 0, SALWOERK_FAIL = 1, SALWOERK_NOT_REACHED = 2 };
+
+static inline const char *salwoerk_verdict_text(uint64_t verdict)
+{
+    switch (verdict) {
+    case SALWOERK_PASS: return "pass";
+    case SALWOERK_FAIL: return "fail";
+    case SALWOERK_NOT_REACHED: return "not reached";
+    default: return "no verdict";
+    }
+}
+
+/* The clause of verdicts[place], and what it asks. */
+static inline const char *salwoerk_verdict_clause(size_t place)
+{
+    static const char *const clauses[SALWOERK_VERDICTS] = { "6.1", "5.6.3(2)", "6.2.2", "9.2.1.1(1)", "9.2.1.1(3)" };
+    return place < SALWOERK_VERDICTS ? clauses[place] : "";
+}
+
+static inline const char *salwoerk_verdict_question(size_t place)
+{
+    static const char *const questions[SALWOERK_VERDICTS] = {
+        "|M| at most MRd", "depth of the neutral axis", "|V| at most VRd,c", "least reinforcement", "most reinforcement"
+    };
+    return place < SALWOERK_VERDICTS ? questions[place] : "";
+}
+
+/* ---- the calls */
+
+/* Find a depth: the neutral axis in tenths of a millimetre from the top, which is compressed. Refusals: section tests, 8, 11 12. */
 typedef struct { uint64_t refusal, depth; } salwoerk_depth;
 salwoerk_depth salwoerk_find_depth(salwoerk_section section, int64_t n);
 
-/* Moment at a depth: the moment resistance in N mm with the top compressed; it may be negative. Refusals 1 to 7, 13. */
+/* Moment at a depth: the moment resistance in N mm with the top compressed; it may be negative. Refusals: section tests, 13. */
 typedef struct { uint64_t refusal; int64_t moment; } salwoerk_moment;
 salwoerk_moment salwoerk_moment_at(salwoerk_section section, uint64_t depth);
 
-/* Check, for the face that M compresses. Refusals 1 to 12. u in tenths of a millimetre, mrd in N mm, vrd in newtons, dm in mm (mean depth
- * of the tension layers), area in mm2 (As). Verdicts 0 pass, 1 fail, 2 not reached: 6.1, 5.6.3(2), 6.2.2, 9.2.1.1(1), 9.2.1.1(3). */
+/* Check, for the face that M compresses. Refusals: section tests, load tests, 11 12. u in tenths of a millimetre, mrd in N mm, vrd in newtons,
+ * dm in mm (mean depth of the tension layers), area in mm2 (As). A verdict is one of enum salwoerk_verdict, in the sequence of
+ * salwoerk_verdict_clause. */
 typedef struct {
     uint64_t refusal, u;
     int64_t mrd;
     uint64_t vrd, dm, area;
-    uint64_t verdicts[5];
+    uint64_t verdicts[SALWOERK_VERDICTS];
 } salwoerk_report;
 salwoerk_report salwoerk_check(salwoerk_section section, salwoerk_load load);
 
-/* Read a record; bytes after it are ignored. Refusals 20 to 23, then 1 to 10. The length is answered on success, on 23 and on 1 to 10. */
+/* Read a record; bytes after it are ignored. Refusals: 20 21 22 23, section tests, load tests. The length is answered on success, on 23 and on
+ * the section's and the load's. */
 typedef struct {
-    uint8_t refusal;
+    uint64_t refusal;
     size_t length;
     salwoerk_section section;
     salwoerk_load load;
 } salwoerk_reading;
 salwoerk_reading salwoerk_read(const uint8_t *bytes, size_t length);
 
-/* Write a record into the buffer. Refusals 1 to 10, 25. A success changes the answered number of first bytes and no others; a refusal
- * changes none. A record has at most 188 bytes. */
-typedef struct { uint8_t refusal; size_t length; } salwoerk_written;
+/* A record has at most as many bytes. */
+#define SALWOERK_RECORD_ROOM 188
+
+/* Write a record into the buffer. Refusals: section tests, load tests, 25. A success answers the length and changes that many first bytes and no
+ * others; a refusal changes none. */
+typedef struct { uint64_t refusal; size_t length; } salwoerk_written;
 salwoerk_written salwoerk_write(salwoerk_section section, salwoerk_load load, uint8_t *buffer, size_t length);
 
-/* The list of the records in the input, back to back: a line for each, without the header line. Answers the number of bytes written. Where
- * the buffer is shorter than 12 bytes for each byte of input and 48, nothing is written and 0 is answered. */
-size_t salwoerk_list(const uint8_t *input, size_t input_length, uint8_t *buffer, size_t length);
+/* No list of so many bytes of records is longer. */
+#define SALWOERK_LIST_ROOM(bytes) (12 * (size_t)(bytes) + 48)
+
+/* The list of the records in the input, back to back: a line for each, without the first line, and a record's own refusal in its line. Refusal 25
+ * where the buffer is shorter than SALWOERK_LIST_ROOM(input_length), whatever the list would be; then no byte is changed. Else the length is
+ * the number of bytes written, 0 for an empty input; no other byte is changed. */
+salwoerk_written salwoerk_list(const uint8_t *input, size_t input_length, uint8_t *buffer, size_t length);
 
 #ifdef __cplusplus
 }

@@ -53,22 +53,23 @@ def feed(process, data, chunk, pause):
 
 
 def run_program(program, run):
-    """Standard output and exit status of one run, delivered as it asks.
+    """Standard output, standard error and exit status of one run, delivered as it asks.
 
-    The output goes to a file, so that neither side waits for the other; a
+    What it writes goes to files, so that neither side waits for the other; a
     program that does not end in time is ended and counts as a failure.
     """
     chunk, pause = (run.chunk, PIPE_PAUSE) if run.chunk else (len(run.data) or 1, 0)
-    with tempfile.TemporaryFile() as text:
+    with tempfile.TemporaryFile() as text, tempfile.TemporaryFile() as errors:
         with subprocess.Popen([program], bufsize=0, stdin=subprocess.PIPE,
-                              stdout=text) as process:
+                              stdout=text, stderr=errors) as process:
             timer = threading.Timer(PATIENCE, process.kill)
             timer.start()
             feed(process, run.data, chunk, pause)
             status = process.wait()
             timer.cancel()
         text.seek(0)
-        return text.read(), status
+        errors.seek(0)
+        return text.read(), errors.read(), status
 
 
 # --- comparing its list -----------------------------------------------------
@@ -87,7 +88,7 @@ def compare_list(tally, run, answers, output):
                   len(answers), len(body))
 
 
-def compare_run(tally, run, output, status):
+def compare_run(tally, run, output, said, status):
     """One run against the second implementation and the refusals 01 states."""
     answers = list(second.list_answers(run.data))
     for _, _, report in answers:
@@ -97,6 +98,7 @@ def compare_run(tally, run, output, status):
                       run.refusals, tuple(report.refusal for _, _, report in answers))
     compare_list(tally, run, answers, output)
     tally.require(f"{run.label}: ended by signal {-status}", status >= 0)
+    tally.compare(f"{run.label}: standard error", run.data[:400].hex(), b"", said)
     return answers
 
 
@@ -105,8 +107,8 @@ def compare_runs(tally, program, runs):
     runs = list(runs)
     with ThreadPoolExecutor(max_workers=os.cpu_count()) as pool:
         outputs = pool.map(lambda run: run_program(program, run), runs)
-        for run, (output, status) in zip(runs, outputs):
-            yield compare_run(tally, run, output, status)
+        for run, ended in zip(runs, outputs):
+            yield compare_run(tally, run, *ended)
 
 
 def joined(label, samples, encode):
@@ -126,9 +128,9 @@ def inspect(tally, rng, answers):
     """Where the accepted records stand, and the accuracy of their answers."""
     for _, subject, report in answers:
         if report.refusal == 0:
-            _, _, section, load = second.read_record(subject)
-            tally.coverage.note_turns(section, load, report)
-            check_accuracy(tally, rng, section, load, report.u, report.mrd)
+            reading = second.read_record(subject)
+            tally.coverage.note_turns(reading.section, reading.load, report)
+            check_accuracy(tally, rng, reading.section, reading.load, report.u, report.mrd)
 
 
 def compare_program(tally, rng, program, samples):

@@ -4,13 +4,15 @@ Each run is one standard input with the refusals that document 01 states for
 its lines, in order.
 """
 
+from itertools import combinations
 from typing import NamedTuple, Optional
 
 import second
 from samples import I64_MAX, SIXTEEN, record
 from second import EXAMPLE, Load
 
-FULL = record(SIXTEEN, Load(1_000, -2_000, 3_000))  # 4 + 8·23 bytes
+FULL = record(SIXTEEN, Load(1_000, -2_000, 3_000))
+assert len(FULL) == second.LONGEST_RECORD
 ROOM = second.INPUT_ROOM
 MAP_0 = bytes(4)
 
@@ -29,6 +31,11 @@ def fields_of(data):
     return second.fields_read(data, second.bits_that_stand(data))
 
 
+def choices(bits):
+    """Every choice of the bits, none and all included."""
+    return [chosen for number in range(len(bits) + 1) for chosen in combinations(bits, number)]
+
+
 def cut_runs():
     """Cut at every byte: 20 below 4 bytes, 22 below the length."""
     for whole in (EXAMPLE, FULL):
@@ -39,7 +46,7 @@ def cut_runs():
 
 
 def forbidden_bit_runs():
-    """Refusal 21 for bit 7 and 24 to 31, before 22 and before 23."""
+    """Refusal 21 for each bit of no field, before 22 and before 23."""
     for bit in second.FORBIDDEN_BITS:
         spoiled = second.assemble({**fields_of(EXAMPLE), bit: second.signed_bytes(1)})
         bare = (1 << bit).to_bytes(4, "big")
@@ -51,14 +58,15 @@ def forbidden_bit_runs():
 
 def missing_bit_runs():
     """Refusal 23 for each choice of absent b, h, fck, fyk; 22 comes before it."""
-    for absent in range(1, 16):
-        kept = {bit: value for bit, value in fields_of(FULL).items()
-                if not (bit in second.MANDATORY_BITS and absent >> bit & 1)}
-        spoiled = second.assemble(kept)
-        yield Run(f"absent {absent:04b}", spoiled + EXAMPLE, (23, 0))
-        yield Run(f"absent {absent:04b}, cut", EXAMPLE + spoiled[:-1], (0, 22))
-    out_of_range = {bit: second.signed_bytes(I64_MAX) for bit in (1, 2, 3, 4, 5, 6)}
-    yield Run("23 before 1 to 10", second.assemble(out_of_range) + EXAMPLE, (23, 0))
+    for absent in choices(second.MANDATORY_BITS):
+        if absent:
+            kept = {bit: value for bit, value in fields_of(FULL).items() if bit not in absent}
+            spoiled = second.assemble(kept)
+            yield Run(f"absent {absent}", spoiled + EXAMPLE, (23, 0))
+            yield Run(f"absent {absent}, cut", EXAMPLE + spoiled[:-1], (0, 22))
+    first, *others = second.SIGNED_BITS
+    out_of_range = {bit: second.signed_bytes(I64_MAX) for bit in others}
+    yield Run(f"23 for bit {first} before the section tests", second.assemble(out_of_range) + EXAMPLE, (23, 0))
 
 
 def leftover_runs():
@@ -74,22 +82,24 @@ def leftover_runs():
 
 def gap_runs():
     """'Layer bits may have gaps; layers are taken by rising bit.'"""
-    signed = {bit: value for bit, value in fields_of(FULL).items() if bit < 8}
-    layers = [value for bit, value in fields_of(FULL).items() if bit >= 8]
-    for bits in ((23,), (8, 23), (9, 10), (22, 23), tuple(range(8, 24, 2)),
-                 tuple(range(9, 24, 2)), (10, 13, 14, 20), tuple(range(9, 24))):
+    fields, places = fields_of(FULL), second.LAYER_BITS
+    signed = {bit: value for bit, value in fields.items() if bit not in places}
+    layers = [value for bit, value in fields.items() if bit in places]
+    for bits in (places[-1:], (places[0], places[-1]), places[1:3], places[-2:], places[::2],
+                 places[1::2], (10, 13, 14, 20), places[1:]):
         spread = second.assemble({**signed, **dict(zip(bits, layers))})
         close = second.assemble({**signed, **dict(zip(second.LAYER_BITS, layers[:len(bits)]))})
-        yield Run(f"layer bits {bits}", spread + close, (0, 0))
+        yield Run(f"layer bits {tuple(bits)}", spread + close, (0, 0))
     yield Run("no layer bit", second.assemble(signed) + EXAMPLE, (5, 0))
 
 
 def present_zero_runs():
-    """'a present 0 is read too': each choice of N, M, V there as 0."""
-    always = {bit: value for bit, value in fields_of(EXAMPLE).items() if bit not in (4, 5, 6)}
-    for present in range(8):
-        zeros = {bit: bytes(8) for bit in (4, 5, 6) if present >> bit - 4 & 1}
-        yield Run(f"present zeros {present:03b}", second.assemble({**always, **zeros}), (0,))
+    """'a present 0 is read too': each choice of N, M, V there with what its absence means."""
+    optional = {field.bit: second.signed_bytes(field.missing) for field in second.OPTIONAL_FIELDS}
+    always = {bit: value for bit, value in fields_of(EXAMPLE).items() if bit not in optional}
+    for present in choices(tuple(optional)):
+        given = {bit: optional[bit] for bit in present}
+        yield Run(f"present {present}", second.assemble({**always, **given}), (0,))
 
 
 def size_runs():

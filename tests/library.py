@@ -18,16 +18,17 @@ from tally import check_accuracy
 
 STRUCTS = {
     "Layer": [("depth", c_uint32), ("area", c_uint32)],
+    "Grade": [("fck", c_int64), ("fyk", c_int64)],
     "Section": [("layers", "Layer", 16), ("width", c_int64), ("height", c_int64),
-                ("fck", c_int64), ("fyk", c_int64), ("count", c_size_t)],
+                ("grade", "Grade"), ("count", c_size_t)],
     "Load": [("n", c_int64), ("m", c_int64), ("v", c_int64)],
     "Depth": [("refusal", c_uint64), ("u", c_uint64)],
     "Moment": [("refusal", c_uint64), ("moment", c_int64)],
     "Report": [("refusal", c_uint64), ("u", c_uint64), ("mrd", c_int64), ("vrd", c_uint64),
-               ("dm", c_uint64), ("area", c_uint64), ("verdicts", c_uint64, 5)],
-    "Reading": [("refusal", c_uint8), ("length", c_size_t), ("section", "Section"),
+               ("dm", c_uint64), ("area", c_uint64), ("verdicts", c_uint64, second.VERDICTS)],
+    "Reading": [("refusal", c_uint64), ("length", c_size_t), ("section", "Section"),
                 ("load", "Load")],
-    "Written": [("refusal", c_uint8), ("length", c_size_t)],
+    "Written": [("refusal", c_uint64), ("length", c_size_t)],
 }
 
 # --- table 2: calls (name in the library, arguments, answer) ----------------
@@ -39,8 +40,8 @@ CALLS = {
     "check": ("salwoerk_check", ("Section", "Load"), "Report"),
     "read": ("salwoerk_read", (BYTES, c_size_t), "Reading"),
     "write": ("salwoerk_write", ("Section", "Load", BYTES, c_size_t), "Written"),
-    # input and its length, room for the text and its length; answers the text's length
-    "list": ("salwoerk_list", (BYTES, c_size_t, BYTES, c_size_t), c_size_t),
+    # input and its length, room for the text and its length
+    "list": ("salwoerk_list", (BYTES, c_size_t, BYTES, c_size_t), "Written"),
 }
 
 GUARD = 16  # bytes on either side of a lent buffer, which must not change
@@ -66,6 +67,12 @@ def lent(data):
     return (c_uint8 * max(len(data), 1)).from_buffer_copy(data or bytes(1))
 
 
+def guarded(surroundings):
+    """Memory with these bytes, the buffer between its guards, and the buffer's length."""
+    memory = (c_uint8 * len(surroundings)).from_buffer_copy(surroundings)
+    return memory, ctypes.cast(ctypes.byref(memory, GUARD), BYTES), len(surroundings) - 2 * GUARD
+
+
 class Engine:
     """The library's calls, answering in the terms of second.py."""
 
@@ -89,8 +96,14 @@ class Engine:
     def section(self, section):
         """A section as the library takes it, places beyond the count too."""
         places = list(section.layers) + [Layer(0, 0)] * (second.PLACES - len(section.layers))
-        layers = (self.structs["Layer"] * second.PLACES)(*places)
-        return self.structs["Section"](layers, *section[:5])
+        return self.structs["Section"](
+            layers=(self.structs["Layer"] * second.PLACES)(*places),
+            width=section.width, height=section.height,
+            grade=self.structs["Grade"](fck=section.fck, fyk=section.fyk), count=section.count)
+
+    def load(self, load):
+        """A load as the library takes it."""
+        return self.structs["Load"](n=load.n, m=load.m, v=load.v)
 
     def find_depth(self, section, n):
         """Refusal and u."""
@@ -104,7 +117,7 @@ class Engine:
 
     def check(self, section, load):
         """The report, verdicts as numbers."""
-        answer = self.calls["check"](self.section(section), self.structs["Load"](*load))
+        answer = self.calls["check"](self.section(section), self.load(load))
         return second.Report(answer.refusal, answer.u, answer.mrd, answer.vrd, answer.dm,
                              answer.area, tuple(answer.verdicts))
 
@@ -113,23 +126,22 @@ class Engine:
         answer = self.calls["read"](lent(data), len(data))
         given = answer.section
         layers = tuple(Layer(layer.depth, layer.area) for layer in given.layers)
-        section = Section(given.width, given.height, given.fck, given.fyk, given.count, layers)
+        section = Section(width=given.width, height=given.height, fck=given.grade.fck,
+                          fyk=given.grade.fyk, count=given.count, layers=layers)
         return second.Reading(answer.refusal, answer.length, section,
-                              Load(answer.load.n, answer.load.m, answer.load.v))
+                              Load(n=answer.load.n, m=answer.load.m, v=answer.load.v))
 
     def write(self, section, load, surroundings):
         """Refusal and length, and all bytes with the guards beside the buffer."""
-        room = len(surroundings) - 2 * GUARD
-        memory = (c_uint8 * len(surroundings)).from_buffer_copy(surroundings)
-        buffer = ctypes.cast(ctypes.byref(memory, GUARD), BYTES)
-        answer = self.calls["write"](self.section(section), self.structs["Load"](*load),
-                                     buffer, room)
+        memory, buffer, room = guarded(surroundings)
+        answer = self.calls["write"](self.section(section), self.load(load), buffer, room)
         return (answer.refusal, answer.length), bytes(memory)
 
-    def list(self, data, room):
-        """The text that the library puts into a buffer of that room."""
-        text = (c_uint8 * room)()
-        return bytes(text[:self.calls["list"](lent(data), len(data), text, room)])
+    def list(self, data, surroundings):
+        """Refusal and length, and all bytes with the guards beside the buffer."""
+        memory, buffer, room = guarded(surroundings)
+        answer = self.calls["list"](lent(data), len(data), buffer, room)
+        return (answer.refusal, answer.length), bytes(memory)
 
 
 # --- samples that only the library can meet ---------------------------------
@@ -161,8 +173,9 @@ def depths_for_moment(rng, section):
 
 def hexadecimal(section, load):
     """Section and load as they were handed over, in hexadecimal."""
-    numbers = (*section[:5], *(value for layer in section.layers for value in layer), *load)
-    return " ".join(f"{value:x}" for value in numbers)
+    numbers = {**section._asdict(), **load._asdict()}
+    layers = " ".join(f"{layer.depth:x}/{layer.area:x}" for layer in numbers.pop("layers"))
+    return " ".join(f"{name} {value:x}" for name, value in numbers.items()) + " layers " + layers
 
 
 def compare_depth(tally, rng, engine, sample):
@@ -200,7 +213,7 @@ def compare_check(tally, rng, engine, sample):
 def compare_write(tally, rng, engine, sample):
     """Write a record into rooms around its length: every byte, guards too."""
     section, load = sample.section, sample.load
-    length = second.write_record(section, load, bytearray(200))[1] or 60
+    length = second.write_record(section, load, bytearray(second.LONGEST_RECORD))[1] or len(second.EXAMPLE)
     for room in (0, length - 1, length, length + 1, length + 50):
         memory = bytearray(rng.randbytes(room + 2 * GUARD))
         answer = engine.write(section, load, bytes(memory))
@@ -230,18 +243,21 @@ def compare_read_back(tally, rng, engine, sample):
     data = written + rng.randbytes(rng.randint(0, 9))
     expected = second.read_record(data)
     if expected.refusal == 0:
-        kept = second.section_of(*section[:4], second.counted(section))
+        empty = (Layer(0, 0),) * (second.PLACES - section.count)
+        kept = section._replace(layers=second.counted(section) + empty)
         expected = second.Reading(0, len(written), kept, load)
     tally.compare(f"Read back, {sample.label}", data.hex(), expected, engine.read(data))
 
 
-def compare_list(tally, engine, run):
-    """The list's text without its first line; none where the buffer is too short."""
+def compare_list(tally, rng, engine, run):
+    """The list's text without its first line; 25 and no byte changed where the buffer is too short."""
     room = 12 * len(run.data) + 48
     lines = second.list_text(run.data).encode()[len(second.HEADER):]
-    for given, expected in ((room, lines), (room - 1, b"")):
-        tally.compare(f"List, room {given}, {run.label}", run.data[:400].hex(),
-                      expected, engine.list(run.data, given))
+    for given, answer in ((room, (0, len(lines))), (room + 1, (0, len(lines))), (room - 1, (25, 0)), (0, (25, 0))):
+        memory = bytearray(rng.randbytes(given + 2 * GUARD))
+        listed = engine.list(run.data, bytes(memory))
+        memory[GUARD:GUARD + answer[1]] = lines[:answer[1]]
+        tally.compare(f"List, room {given}, {run.label}", run.data[:400].hex(), (answer, bytes(memory)), listed)
 
 
 SAMPLE_COMPARISONS = (
@@ -262,14 +278,14 @@ def compare_samples(tally, rng, engine, samples):
                 comparison(tally, rng, engine, sample)
 
 
-def compare_runs(tally, engine, runs):
+def compare_runs(tally, rng, engine, runs):
     """Read each record of inputs that are damaged or whole, and list them."""
     for run in runs:
         if "read" in engine.calls:
             for data in dict.fromkeys(data for _, data, _ in second.list_answers(run.data)):
                 compare_read(tally, engine, run.label, data)
         if "list" in engine.calls and len(run.data) <= second.INPUT_ROOM:
-            compare_list(tally, engine, run)
+            compare_list(tally, rng, engine, run)
 
 
 def compare_library(tally, rng, path, samples, runs):
@@ -280,4 +296,4 @@ def compare_library(tally, rng, path, samples, runs):
     compare_samples(tally, rng, engine, all_samples())
     compare_samples(tally, rng, engine, count_samples())
     compare_samples(tally, rng, engine, samples)
-    compare_runs(tally, engine, runs)
+    compare_runs(tally, rng, engine, runs)

@@ -2,15 +2,16 @@
 """Write the check list program's input and the output that it must have.
 
 The input is the 60-byte example of document 01, "The list", then records
-that meet every refusal a list can show: 1 to 12, 23, and a 22 at the end.
+that meet every refusal after which a list goes on, and a 22 at the end.
 Both files come from the second implementation (second.py), which is written
 from the paper, and not from the program.
 """
 
 from pathlib import Path
 
-from second import (EXAMPLE, EXAMPLE_LIST, LAYER_BITS, NO_LOAD, SECTION_A, Layer, Load, assemble,
-                    fields_written, layer_bytes, list_answers, list_text, section_of, signed_bytes)
+from second import (EXAMPLE, EXAMPLE_LIST, LAYER_BITS, MANDATORY_BITS, NO_LOAD, OPTIONAL_FIELDS,
+                    SECTION_A, SEQUENCES, UNREADABLE, Layer, Load, assemble, fields_written,
+                    layer_bytes, list_answers, list_text, section_of, signed_bytes)
 
 CRATE = Path(__file__).resolve().parent.parent / "crates" / "check_list"
 
@@ -26,11 +27,11 @@ def with_layers(*layers):
 
 
 def with_gaps():
-    """Layers at bits 9 and 23, and N, M and V present as 0."""
+    """Layers at the second and the last of their bits, and N, M and V present as 0."""
     fields = fields_written(SECTION_A, NO_LOAD)
     layer = fields.pop(LAYER_BITS[0])
-    fields.update({9: layer, 23: layer_bytes(Layer(50, 600))})
-    fields.update({bit: signed_bytes(0) for bit in (4, 5, 6)})
+    fields.update({LAYER_BITS[1]: layer, LAYER_BITS[-1]: layer_bytes(Layer(50, 600))})
+    fields.update({field.bit: signed_bytes(field.missing) for field in OPTIONAL_FIELDS})
     return assemble(fields)
 
 
@@ -60,7 +61,7 @@ def accepted():
 
 
 def refused():
-    """A record for each refusal from 1 to 12, at the edge of its range, and for 23."""
+    """A record for each refusal of Check, at the edge of its range, and for 23."""
     return [
         record(width=49, fck=31),              # 1
         record(width=-(2**63)),                # 1
@@ -75,7 +76,7 @@ def refused():
         record(load=Load(0, 0, -500_000_001)),  # 10
         record(load=Load(-651_691, 0, 0)),     # 11
         record(load=Load(2_505_001, 0, 0)),    # 12
-        without(0),                            # 23
+        without(MANDATORY_BITS[0]),            # 23
         bytes(4),                              # 23: no bit stands
     ]
 
@@ -87,7 +88,8 @@ def main():
     assert len(EXAMPLE) == 60
     assert text.startswith(EXAMPLE_LIST)
     met = {report.refusal for _, _, report in list_answers(data)}
-    assert met == {*range(13), 22, 23}, met
+    ended_by = {*UNREADABLE} - {22}
+    assert met == {0, *SEQUENCES["Read a record"], *SEQUENCES["Check"]} - ended_by, met
     (CRATE / "stdin").write_bytes(data)
     (CRATE / "stdout").write_text(text)
     print(f"{len(data)} bytes, {text.count(chr(10)) - 1} records, refusals {sorted(met)}")

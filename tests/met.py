@@ -8,11 +8,15 @@ from collections import Counter
 
 import second
 
-LIST_REFUSALS = (*range(1, 13), 20, 21, 22, 23, 26)
-LIBRARY_REFUSALS = (13, 25)
+LIST_REFUSALS = tuple(dict.fromkeys(
+    second.SEQUENCES["Read a record"] + second.SEQUENCES["Check"] + second.SEQUENCES["List program"]))
+LIBRARY_REFUSALS = tuple(dict.fromkeys(
+    number for call in ("Find a depth", "Moment at a depth", "Write a record")
+    for number in second.SEQUENCES[call] if number not in LIST_REFUSALS))
 
 # 01 leaves verdicts one and five never "not reached" in an accepted record.
 REACHABLE = ((0, 1), (0, 1, 2), (0, 1, 2), (0, 1, 2), (0, 1))
+assert len(REACHABLE) == second.VERDICTS
 
 
 def bending_turns(seen, load, report):

@@ -4,6 +4,7 @@ Each sample names the refusal that the paper gives it, or None where only the
 comparison of the two implementations decides. Nothing here is random.
 """
 
+from itertools import combinations
 from math import ceil, floor
 from typing import NamedTuple, Optional
 
@@ -125,8 +126,8 @@ def end_samples():
                 yield Sample(f"ends, N {n}, M {m}", section, Load(n, m, 0), refusal)
 
 
-# One way to fail each test alone; 6 fails late and 7 early, so that a test
-# which does not ask about all layers first answers 7.
+# One way to fail each test of Check alone, by its number; 6 fails late and 7
+# early, so that a test which does not ask about all layers first answers 7.
 FAILINGS = {
     1: lambda section, load: (section._replace(width=49), load),
     2: lambda section, load: (section._replace(height=2_001), load),
@@ -145,12 +146,12 @@ FAILINGS = {
 
 def order_samples():
     """Two tests fail at once: 'the first test of a call's sequence'."""
-    for earlier, spoil in FAILINGS.items():
-        yield Sample(f"{earlier} alone", *spoil(SIXTEEN, UNDER_LOAD), earlier)
-        for later in range(earlier + 1, 13):
-            if (earlier, later) != (11, 12):  # N cannot lie below and above
-                spoiled = FAILINGS[later](SIXTEEN, UNDER_LOAD)
-                yield Sample(f"{earlier} before {later}", *spoil(*spoiled), earlier)
+    for number in second.SEQUENCES["Check"]:
+        yield Sample(f"{number} alone", *FAILINGS[number](SIXTEEN, UNDER_LOAD), number)
+    for earlier, later in combinations(second.SEQUENCES["Check"], 2):
+        if (earlier, later) != (11, 12):  # N cannot lie below and above
+            spoiled = FAILINGS[later](SIXTEEN, UNDER_LOAD)
+            yield Sample(f"{earlier} before {later}", *FAILINGS[earlier](*spoiled), earlier)
     both_ways = with_layer(with_layer(SIXTEEN, 3, depth=0), 3, area=0)
     yield Sample("6 before 7 in one layer", both_ways, UNDER_LOAD, 6)
 

@@ -9,7 +9,7 @@ from math import ceil, floor
 
 import second
 from damaged import Run, fields_of
-from samples import FAILINGS, I64_MAX, I64_MIN, M_MOST, Sample, record
+from samples import FAILINGS, I64_MAX, I64_MIN, M_MOST, Sample, record, with_layer
 from second import Layer, Load
 
 
@@ -64,7 +64,7 @@ def own_area(rng, section, layers):
 
 
 def random_section(rng):
-    """A section that passes tests 1 to 7, often at a limit of its steel."""
+    """A section that passes the section tests, often at a limit of its steel."""
     width, height = edged(rng, 50, 2_000), edged(rng, 50, 2_000)
     if rng.random() < 0.4:  # so that 25 times an area can equal b·h
         width = 25 * rng.randint(2, 80)
@@ -73,8 +73,7 @@ def random_section(rng):
     section = second.section_of(width, height, rng.choice(second.CLASSES), fyk, layers)
     turn = rng.choice((own_area, own_area, least_area, most_area))
     area = held(beside(rng, turn(rng, section, layers)), 1, 20_000)
-    layers[-1] = layers[-1]._replace(area=area)
-    return second.section_of(width, height, section.fck, fyk, layers)
+    return with_layer(section, len(layers) - 1, area=area)
 
 
 # --- loads ------------------------------------------------------------------
@@ -112,7 +111,7 @@ def spoiled(rng, section, load):
     if rng.random() < 0.5:
         return rng.choice(list(FAILINGS.values()))(section, load)
     value = rng.choice((rng.randint(I64_MIN, I64_MAX), rng.randint(-2_100, 2_100)))
-    field = rng.choice(("width", "height", "fck", "fyk", "n", "m", "v"))
+    field = rng.choice([field.name for field in second.FIELDS])
     if field in load._fields:
         return section, load._replace(**{field: value})
     return section._replace(**{field: value}), load
@@ -132,13 +131,13 @@ def random_samples(rng, number):
 
 
 def spread_record(rng, section, load):
-    """The record with gaps between its layer bits and zeros that are present."""
+    """The record with gaps between its layer bits, and with values that could be missing."""
     fields = fields_of(record(section, load))
     layers = [fields.pop(bit) for bit in sorted(fields) if bit in second.LAYER_BITS]
     bits = sorted(rng.sample(second.LAYER_BITS, len(layers)))
-    for bit in second.SIGNED_BITS:
+    for field in second.OPTIONAL_FIELDS:
         if rng.random() < 0.5:
-            fields.setdefault(bit, bytes(8))
+            fields.setdefault(field.bit, second.signed_bytes(field.missing))
     return second.assemble({**fields, **dict(zip(bits, layers))})
 
 

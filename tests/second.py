@@ -13,7 +13,7 @@ import sys
 from fractions import Fraction
 from functools import lru_cache
 from math import floor  # exact on fractions, and "toward minus infinity"
-from typing import NamedTuple
+from typing import NamedTuple, Optional
 
 # --------------------------------------------------------------------------
 # What the engine covers
@@ -282,6 +282,7 @@ def accuracy_holds(section, load, u, moment_reported, p, q):
 # --------------------------------------------------------------------------
 
 PASS, FAIL, NOT_REACHED = 0, 1, 2
+VERDICTS = 5  # "Verdicts, five in this sequence"
 
 
 def verdict(passed):
@@ -397,7 +398,7 @@ class Report(NamedTuple):
 
 def refused(number):
     """'A refusal returns zeros and verdicts 2.'"""
-    return Report(number, 0, 0, 0, 0, 0, (NOT_REACHED,) * 5)
+    return Report(number, 0, 0, 0, 0, 0, (NOT_REACHED,) * VERDICTS)
 
 
 def report_at(seen, load, u):
@@ -418,15 +419,40 @@ def report_at(seen, load, u):
 # The record
 # --------------------------------------------------------------------------
 
-MANDATORY_BITS = range(0, 4)   # b, h, fck, fyk
-SIGNED_BITS = range(0, 7)      # b, h, fck, fyk, N, M, V
-LAYER_BITS = range(8, 24)
-FORBIDDEN_BITS = (7, *range(24, 32))
+class Field(NamedTuple):
+    """A signed number of a section or a load, and the bit that says it is there."""
+
+    bit: int
+    name: str                # of Section or of Load
+    missing: Optional[int]   # what it is then; None: "must stand"
+
+
+# "Bits 0 to 6: b, h, fck, fyk, N, M, V"; "Bits 0 to 3 must stand"; "N, M or V
+# may be missing and is then 0"
+FIELDS = (
+    Field(0, "width", None),
+    Field(1, "height", None),
+    Field(2, "fck", None),
+    Field(3, "fyk", None),
+    Field(4, "n", 0),
+    Field(5, "m", 0),
+    Field(6, "v", 0),
+)
+LAYER_BITS = range(8, 24)  # "Bits 8 to 23: layers"
+
+SIGNED_BITS = tuple(field.bit for field in FIELDS)
+MANDATORY_BITS = tuple(field.bit for field in FIELDS if field.missing is None)
+OPTIONAL_FIELDS = tuple(field for field in FIELDS if field.missing is not None)
+KNOWN_BITS = (*SIGNED_BITS, *LAYER_BITS)
+FORBIDDEN_BITS = tuple(bit for bit in range(32) if bit not in KNOWN_BITS)  # "bit 7 or one of 24 to 31"
 
 
 def record_length(bits):
     """'The length is 4 plus 8 times the number of bits that stand.'"""
     return 4 + 8 * len(bits)
+
+
+LONGEST_RECORD = record_length(KNOWN_BITS)
 
 
 def bits_that_stand(data):
@@ -452,11 +478,17 @@ def layer_bytes(layer):
     return layer.depth.to_bytes(4, "big") + layer.area.to_bytes(4, "big")
 
 
+def numbers_of(section, load):
+    """The number of each field, by its bit."""
+    named = {**section._asdict(), **load._asdict()}
+    return {field.bit: named[field.name] for field in FIELDS}
+
+
 def fields_written(section, load):
     """'The writer omits a zero N, M or V and uses the lowest layer bits.'"""
-    always = (section.width, section.height, section.fck, section.fyk)
-    fields = {bit: signed_bytes(number) for bit, number in enumerate((*always, *load))
-              if bit in MANDATORY_BITS or number != 0}
+    numbers = numbers_of(section, load)
+    fields = {field.bit: signed_bytes(numbers[field.bit]) for field in FIELDS
+              if numbers[field.bit] != field.missing}
     for bit, layer in zip(LAYER_BITS, counted(section)):
         fields[bit] = layer_bytes(layer)
     return fields
@@ -469,16 +501,33 @@ def fields_read(data, bits):
 
 def meaning(fields):
     """'N, M or V may be missing and is then 0'; 'layers are taken by rising bit'."""
-    numbers = [int.from_bytes(fields.get(bit, bytes(8)), "big", signed=True)
-               for bit in SIGNED_BITS]
+    numbers = {field.name: int.from_bytes(fields[field.bit], "big", signed=True)
+               if field.bit in fields else field.missing for field in FIELDS}
+    load = Load(**{name: numbers.pop(name) for name in Load._fields})
     layers = [Layer(int.from_bytes(fields[bit][:4], "big"), int.from_bytes(fields[bit][4:], "big"))
               for bit in LAYER_BITS if bit in fields]
-    return section_of(*numbers[:4], layers), Load(*numbers[4:])
+    return section_of(**numbers, layers=layers), load
 
 
 # --------------------------------------------------------------------------
 # When a call is turned down
 # --------------------------------------------------------------------------
+
+
+# The numbers in the paper's sequence, which need not be a rising one.
+SECTION_TESTS = (1, 2, 3, 4, 5, 6, 7)
+LOAD_TESTS = (8, 9, 10)
+FACE_TESTS = (11, 12)
+MAP_TESTS = (20, 21, 22, 23)
+
+SEQUENCES = {
+    "Find a depth": (*SECTION_TESTS, 8, *FACE_TESTS),
+    "Moment at a depth": (*SECTION_TESTS, 13),
+    "Check": (*SECTION_TESTS, *LOAD_TESTS, *FACE_TESTS),
+    "Read a record": (*MAP_TESTS, *SECTION_TESTS, *LOAD_TESTS),
+    "Write a record": (*SECTION_TESTS, *LOAD_TESTS, 25),
+    "List program": (26,),
+}
 
 
 def outside(number, least, most):
@@ -492,7 +541,7 @@ def first_failing(tests):
 
 
 def section_tests(section):
-    """Section tests 1 to 7; 'a test over layers asks about all of them'."""
+    """The section tests; 'a test over layers asks about all of them'."""
     layers = counted(section)
     return (
         (1, outside(section.width, 50, 2_000)),
@@ -527,21 +576,21 @@ def face_tests(seen, n):
 
 
 def find_depth(section, n):
-    """Find a depth: 1 to 7, 8, 11, 12; 'always the top here'. Refusal and u."""
+    """Find a depth: the section tests, 8, 11, 12; 'always the top here'. Refusal and u."""
     refusal = (first_failing(section_tests(section) + axial_test(n))
                or first_failing(face_tests(section, n)))
     return (refusal, 0) if refusal else (0, depth_returned(section, n))
 
 
 def moment_at_depth(section, u):
-    """Moment at a depth: 1 to 7, 13; 'the top is compressed here too'."""
+    """Moment at a depth: the section tests, 13; 'the top is compressed here too'."""
     refusal = first_failing(section_tests(section)
                             + ((13, outside(u, 1, greatest_depth(section))),))
     return (refusal, 0) if refusal else (0, moment_resistance(section, u))
 
 
 def check(section, load):
-    """Check: 1 to 10, 'then 11 and 12 for the face compressed'."""
+    """Check: section and load tests, 'then 11 and 12 for the face compressed'."""
     refusal = first_failing(section_tests(section) + load_tests(load))
     if refusal:
         return refused(refusal)
@@ -570,7 +619,7 @@ def refused_reading(number, length):
 
 
 def read_record(data):
-    """Read a record: 20, 21, 22, 23, 'then 1 to 10'."""
+    """Read a record: 20, 21, 22, 23, then the section and load tests."""
     if len(data) < 4:
         return refused_reading(20, 0)
     bits = bits_that_stand(data)
@@ -590,7 +639,7 @@ def read_record(data):
 
 
 def write_record(section, load, buffer):
-    """Write a record: 1 to 10, 25. Answers refusal and length.
+    """Write a record: section and load tests, 25. Answers refusal and length.
 
     'A success ... changes that many first bytes and no others.'
     """
@@ -614,7 +663,8 @@ INPUT_ROOM = 65_536
 
 def list_line(number, report):
     """'number from 1, refusal or 0, u, MRd, VRd,c, dm, As, five verdicts'"""
-    values = (number, *report[:6], *report.verdicts)
+    values = (number, report.refusal, report.u, report.mrd, report.vrd, report.dm, report.area,
+              *report.verdicts)
     return " ".join(str(value) for value in values) + "\n"
 
 
@@ -658,6 +708,7 @@ EXAMPLE_LIST = ("rec ref u mrd vrd dm as v1 v2 v3 v4 v5\n"
 def equilibrium_rows():
     """The cases of A under N and M: (what it says, computed, expected)."""
     turned = turned_over(SECTION_A)
+    bottom = check(SECTION_A, Load(0, -1, 0))
     at_end = check(SECTION_A, Load(2_505_000, 0, 0))
     return [
         ("A, N 0 from the top: u", find_depth(SECTION_A, 0), (0, 1_358)),
@@ -665,7 +716,7 @@ def equilibrium_rows():
         ("A, internal force at 1,359", internal_force(SECTION_A, 1_359), 150),
         ("A, N 0: MRd", check(SECTION_A, NO_LOAD).mrd, 257_986_051),
         ("A, N 0: Moment at depth 1,358", moment_at_depth(SECTION_A, 1_358), (0, 257_986_051)),
-        ("A, M -1: u and MRd", check(SECTION_A, Load(0, -1, 0))[1:3], (419, 6_312_569)),
+        ("A, M -1: u and MRd", (bottom.u, bottom.mrd), (419, 6_312_569)),
         ("A, M -1: the layer alone",
          rounded_down(layer_moment(turned, counted(turned)[0], 419)), -40_596_659),
         ("A, N -651,690: u 1", find_depth(SECTION_A, -651_690), (0, 1)),
@@ -711,10 +762,28 @@ def refusal_rows():
     ]
 
 
+def sequence_rows():
+    """The tests stand in the sequence that the paper lists; lengths follow from the table of fields."""
+    def numbers(tests):
+        return tuple(number for number, _ in tests)
+
+    section = numbers(section_tests(SECTION_A))
+    load = numbers(load_tests(NO_LOAD))
+    face = numbers(face_tests(SECTION_A, 0))
+    return [
+        ("section tests", section, (1, 2, 3, 4, 5, 6, 7)),
+        ("load tests", load, (8, 9, 10)),
+        ("tests of Check", section + load + face, SEQUENCES["Check"]),
+        ("tests of Find a depth", section + numbers(axial_test(0)) + face, SEQUENCES["Find a depth"]),
+        ("bits of no field", FORBIDDEN_BITS, (7, 24, 25, 26, 27, 28, 29, 30, 31)),
+        ("bytes of the longest record", LONGEST_RECORD, 188),
+    ]
+
+
 def main():
     """Print every reference case; exit status 1 where one differs."""
     failed = 0
-    rows = equilibrium_rows() + clause_rows() + refusal_rows()
+    rows = equilibrium_rows() + clause_rows() + refusal_rows() + sequence_rows()
     for name, computed, expected in rows:
         same = computed == expected
         failed += not same

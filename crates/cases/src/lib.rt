@@ -1,1 +1,1 @@
-// The worked cases of document 01 marked (P): theorems only.
+// The worked cases of document 01 and the laws that documents cite: theorems only.

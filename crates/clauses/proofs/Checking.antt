@@ -1,12 +1,13 @@
 -- What Check answers: the face compressed, and its accuracy. Assumes nothing.
-use Prim.Native.Nat.{ℕ}
+use Prim.Native.Nat.{ℕ, zero, suc}
 use mathlib.Core.Bool.{Bool, true, false, cond}
-use mathlib.Core.List.{List}
-use mathlib.Core.Path.{_≡_}
-use lib.Dec.{eqb}
+use mathlib.Core.List.{List, _++_}
+use mathlib.Core.Path.{_≡_, refl, sym, ap, _∙_}
+use native.Mathlib.Omega.{arith}
 use lib.IntN.{ℤ, pos}
 use lib.Signed.{leZ}
-use Rattle.arith.specs.Chain.{unless}
+use Rattle.arith.specs.Chain.{orElse, firstFailing}
+use Rattle.arith.proofs.Chain.{first-of}
 use Rattle.equilibrium.specs.declared.Layer.{Layer}
 use Rattle.equilibrium.specs.declared.Section.{Section}
 use Rattle.equilibrium.specs.declared.Load.{Load}
@@ -15,24 +16,20 @@ use Rattle.equilibrium.specs.declared.Accepted.{Accepted}
 use Rattle.equilibrium.specs.declared.Accepted.the-variants as section
 use Rattle.equilibrium.specs.declared.Depth.{Depth}
 use Rattle.equilibrium.specs.declared.Depth.the-variants as depth
-use Rattle.equilibrium.specs.Section.{layersOf, Counted, counted, accepted}
-use Rattle.equilibrium.specs.Load.{loadRefusal}
-use Rattle.equilibrium.specs.Usable.{Usable, PromisedSection}
+use Rattle.equilibrium.specs.Section.{layersOf, counted}
+use Rattle.equilibrium.specs.Refusals.{accepted, loadTests, faceTests, answer}
+use Rattle.equilibrium.specs.Code.Usable.{Usable}
 use Rattle.equilibrium.specs.Turned.{turned}
-use Rattle.equilibrium.specs.Depth.{depthFor}
+use Rattle.equilibrium.specs.Depth.{depthAnswer, depthFor}
 use Rattle.equilibrium.specs.Accuracy.{Accurate, PromisedDepth}
-use Rattle.equilibrium.proofs.Usable.{section-promise}
+use Rattle.equilibrium.proofs.Usable.{usable-by, call-refused, call-ready, call-numbered}
 use Rattle.equilibrium.proofs.Found.{depth-promise}
 use Rattle.equilibrium.proofs.Turned.{usable-turned}
 use Rattle.clauses.specs.declared.Checked.{Checked}
 use Rattle.clauses.specs.declared.Checked.the-variants.{Done, Refused}
-use Rattle.clauses.specs.Tension.{Counts}
-use Rattle.clauses.specs.Check.{facing, reportAt, reportAfter, checkFace, checkAfter, checkIn, checkOf}
-use Rattle.clauses.specs.Accuracy.{AccurateAfter, AccurateCheck}
-use Rattle.clauses.proofs.Layers.{counts}
-
-pub counted-layers : {x : Design} (s : Section) → Usable x (s .count) (layersOf s) → Counts s
-counted-layers s w = counts s (w .count-high) (w .bounded .h-high) (w .depths) (w .areas)
+use Rattle.clauses.specs.Refusals.{facing, compressedTests, checkTests}
+use Rattle.clauses.specs.Check.{reportAt, reported, checkFace, checkIn, checkOf, refusalNumber}
+use Rattle.clauses.specs.Accuracy.{AccurateReport, AccurateCheck}
 
 -- ---- the face compressed
 
@@ -43,42 +40,104 @@ usable-facing {x} {count} M ls w = go (leZ (pos 0) M)
     go true = w
     go false = usable-turned ls w
 
--- ---- accuracy
+-- ---- the answer of Check, by cases of the section tests and of the load tests
 
-abbrev AccurateFace : Design → List Layer → Load → Checked → Type 0
-AccurateFace x ls load (Done r) = Accurate x ls (load .n) (r .u) (r .mrd)
-AccurateFace x ls load (Refused k) = Unit {0}
+-- of a face: what `depthFor` says of it
+by-depth : (x : Design) (ls : List Layer) (load : Load) (d : Depth) → Checked
+by-depth x ls load (depth.Refused k) = Refused k
+by-depth x ls load (depth.At u) = Done (reportAt x ls load u)
 
--- from the promise of the depth
-reported : (x : Design) (ls : List Layer) (load : Load) (d : Depth) → PromisedDepth x ls (load .n) d → AccurateFace x ls load (reportAfter x ls load d)
-unfolding reportAt
-reported x ls load (depth.At u) p = p .accurate
-reported x ls load (depth.Refused k) p = tt
+module _ (x : Design) (ls : List Layer) (load : Load) where
+  as-found : (k : ℕ) → by-depth x ls load (depthAnswer ls (load .n) k (section.Ready x)) ≡ answer Refused (reported ls load) k (section.Ready x)
+  unfolding by-depth
+  as-found zero = refl
+  as-found (suc k) = refl
 
-face-accurate : {count : ℕ} (x : Design) (ls : List Layer) (load : Load) → Usable x count ls → AccurateFace x ls load (checkFace x ls load)
-unfolding checkFace
-face-accurate x ls load w = reported x ls load (depthFor x ls (load .n)) (depth-promise (load .n) w)
+  face-by-depth : by-depth x ls load (depthFor x ls (load .n)) ≡ checkFace x ls load
+  unfolding depthFor checkFace
+  face-by-depth = as-found (firstFailing (faceTests x ls (load .n)))
 
--- a face that is accurate is so after the load's tests too
-on : (ls : List Layer) (load : Load) (x : Design) (t : Bool) (k : ℕ) (r : Checked) → AccurateFace x (facing (load .m) (x .h) ls) load r → AccurateAfter ls load (section.Ready x) (unless t (Refused k) r)
-on ls load x false k r h = tt
-on ls load x true k (Done r) h = h
-on ls load x true k (Refused j) h = tt
+  pub face-refused : {k : ℕ} → depthFor x ls (load .n) ≡ depth.Refused k → Refused k ≡ checkFace x ls load
+  unfolding by-depth
+  face-refused e = rw e at face-by-depth
 
-after : (c : Counted) (load : Load) (a : Accepted) → PromisedSection c a → AccurateAfter (c .layers) load a (checkAfter (c .layers) load a)
-after c load (section.Refused k) p = tt
-after c load (section.Ready x) p =
-    let ls = c .layers in
-    on ls load x (eqb (loadRefusal load) 0) (loadRefusal load) _ (face-accurate x (facing (load .m) (x .h) ls) load (usable-facing (load .m) ls (p .usable)))
+  pub face-at : {u : ℕ} → depthFor x ls (load .n) ≡ depth.At u → Done (reportAt x ls load u) ≡ checkFace x ls load
+  unfolding by-depth
+  face-at e = rw e at face-by-depth
 
-pub check-accurate : (s : Section) (load : Load) → AccurateCheck s load (checkOf s load)
-unfolding checkIn
-check-accurate s load = after (counted s) load (accepted (counted s)) (section-promise s)
+module _ (s : Section) (load : Load) where
+  abbrev found : Design → Checked
+  found x = reported (facing (load .m) (x .h) (layersOf s)) load x
 
--- the second clause of `check_section` follows from its first
-pub both-clauses : (s : Section) (load : Load) {r : Checked} → r ≡ checkOf s load → (r ≡ checkOf s load) × AccurateCheck s load r
-both-clauses s load e = (e, rw e (check-accurate s load))
+  abbrev under-load : Accepted → List ℕ
+  under-load a = loadTests load ++ compressedTests (layersOf s) load a
 
--- places beyond the count: sections that differ only there have one answer
-pub beyond-check : (s t : Section) (load : Load) → counted s ≡ counted t → checkOf s load ≡ checkOf t load
-beyond-check s t load e = rw e
+  pub check-refused : {k : ℕ} → accepted (counted s) ≡ section.Refused k → Refused k ≡ checkOf s load
+  unfolding checkIn
+  check-refused e = sym (call-refused Refused found s under-load e)
+
+  -- of an accepted section the load tests come next, and then those of the face
+  check-ready : {x : Design} → accepted (counted s) ≡ section.Ready x
+      → checkOf s load ≡ answer Refused found
+      (orElse (firstFailing (loadTests load)) (firstFailing (faceTests x (facing (load .m) (x .h) (layersOf s)) (load .n)))) (section.Ready x)
+  unfolding checkIn
+  check-ready {x} e =
+      call-ready Refused found s under-load e
+      ∙ ap (λ (k : ℕ). answer Refused found k (section.Ready x)) (first-of (loadTests load) (faceTests x (facing (load .m) (x .h) (layersOf s)) (load .n)))
+
+  pub load-refused : {x : Design} (k : ℕ) → accepted (counted s) ≡ section.Ready x → k ≡ firstFailing (loadTests load) → (k ≡ 0 → ⊥)
+      → Refused k ≡ checkOf s load
+  load-refused zero e is some = absurd (some refl)
+  load-refused (suc k) e is some = sym (check-ready e ∙ rw (sym is))
+
+  pub load-passed : {x : Design} → accepted (counted s) ≡ section.Ready x → firstFailing (loadTests load) ≡ 0
+      → checkFace x (facing (load .m) (x .h) (layersOf s)) load ≡ checkOf s load
+  unfolding checkFace
+  load-passed {x} e none = sym (check-ready e ∙ rw none (of-face (firstFailing (faceTests x (facing (load .m) (x .h) (layersOf s)) (load .n)))))
+    where
+      of-face : (k : ℕ) → answer Refused found k (section.Ready x) ≡ answer Refused (reported (facing (load .m) (x .h) (layersOf s)) load) k (section.Ready x)
+      of-face zero = refl
+      of-face (suc k) = refl
+
+  check-numbered : refusalNumber (checkOf s load) ≡ firstFailing (checkTests (counted s) load)
+  unfolding checkIn
+  check-numbered = call-numbered Refused found s under-load refusalNumber (λ k. refl) (λ x. refl)
+
+  -- ---- accuracy
+
+  -- of the face that M compresses
+  abbrev AccurateFace : Design → List Layer → Checked → Type 0
+  AccurateFace x ls (Done r) = Accurate x ls (load .n) (r .u) (r .mrd)
+  AccurateFace x ls (Refused k) = Unit {0}
+
+  -- from the promise of the depth
+  from-depth : (x : Design) (ls : List Layer) (d : Depth) → PromisedDepth x ls (load .n) d → AccurateFace x ls (by-depth x ls load d)
+  unfolding by-depth reportAt
+  from-depth x ls (depth.At u) p = p .accurate
+  from-depth x ls (depth.Refused k) p = tt
+
+  face-accurate : {count : ℕ} (x : Design) (ls : List Layer) → Usable x count ls → AccurateFace x ls (checkFace x ls load)
+  face-accurate x ls w = rw (← face-by-depth x ls load) (from-depth x ls (depthFor x ls (load .n)) (depth-promise (load .n) w))
+
+  whole : (x : Design) (r : Checked) → AccurateFace x (facing (load .m) (x .h) (layersOf s)) r → AccurateReport (layersOf s) load (section.Ready x) r
+  whole x (Done r) h = h
+  whole x (Refused k) h = tt
+
+  accurate-under : {x : Design} (k : ℕ) → k ≡ firstFailing (loadTests load) → accepted (counted s) ≡ section.Ready x
+      → AccurateReport (layersOf s) load (section.Ready x) (checkOf s load)
+  accurate-under {x} zero none e =
+      let ls = facing (load .m) (x .h) (layersOf s) in
+      rw (← load-passed e (sym none)) (whole x (checkFace x ls load) (face-accurate x ls (usable-facing (load .m) (layersOf s) (usable-by s e))))
+  accurate-under (suc k) some e = rw (← load-refused (suc k) e some (λ z. omega arith)) tt
+
+  accurate-for : (a : Accepted) → accepted (counted s) ≡ a → AccurateReport (layersOf s) load a (checkOf s load)
+  accurate-for (section.Refused k) e = rw (← check-refused e) tt
+  accurate-for (section.Ready x) e = accurate-under (firstFailing (loadTests load)) refl e
+
+  pub check-accurate : AccurateCheck s load (checkOf s load)
+  check-accurate = accurate-for (accepted (counted s)) refl
+
+  -- the other clauses of `check_section` follow from its first
+  pub check-clauses : {r : Checked} → r ≡ checkOf s load
+      → (r ≡ checkOf s load) × ((refusalNumber r ≡ firstFailing (checkTests (counted s) load)) × AccurateCheck s load r)
+  check-clauses e = (e, (rw e check-numbered, rw e check-accurate))

@@ -11,7 +11,7 @@ use borrow.Author.Tests.{le-leb, not-true}
 use Rattle.arith.proofs.Greatest.{greatest-le, le-greatest, greatest-lt}
 use Rattle.arith.proofs.Test.{is-true, and-yes}
 use Rattle.clauses.specs.SizeFactor.{K, Printed}
-use Rattle.clauses.specs.Power.{powerAtMost}
+use Rattle.clauses.specs.Code.Power.{powerAtMost}
 use Rattle.clauses.proofs.Powers.{never-back}
 use Rattle.arith.proofs.Computed.{everyFrom, entry}
 
@@ -27,7 +27,12 @@ is-factor dm x t =
     let two = and-yes (powerAtMost 2 dm 200000000 (x - 1000)) _ (high .1) in
     let h : 1000 ≤ x = leb→le 1000 x (low .0) in
     let k : x ≤ 2000 = leb→le x 2000 (high .0) in
-    omega (arith, le-greatest (powerAtMost 2 dm 200000000) 1000 (x - 1000) (omega arith) (is-true _ (two .0)), greatest-lt (powerAtMost 2 dm 200000000) (never-back 2 dm 200000000) 1000 (suc (x - 1000)) (omega arith) (not-true _ (is-true _ (two .1))))
+    omega (
+      arith,
+      le-greatest (powerAtMost 2 dm 200000000) 1000 (x - 1000) (omega arith) (is-true _ (two .0)),
+      greatest-lt (powerAtMost 2 dm 200000000)
+          (never-back 2 dm 200000000) 1000 (suc (x - 1000)) (omega arith) (not-true _ (is-true _ (two .1))),
+    )
 
 -- a table whose entries pass the test from 200 on
 pub printed : (table : List ℕ) → T (everyFrom right 200 table) → length table ≡ 1800 → Printed table
@@ -38,4 +43,9 @@ printed table t n =
 pub below : (dm : ℕ) → dm < 200 → 2000 ≡ K dm
 unfolding K
 below dm h =
-    omega (arith, greatest-le (powerAtMost 2 dm 200000000) 1000, le-greatest (powerAtMost 2 dm 200000000) 1000 1000 (le-refl 1000) (le-leb (1000 ^ 2 * dm) 200000000 (omega arith)))
+    omega (
+      arith,
+      greatest-le (powerAtMost 2 dm 200000000) 1000,
+      le-greatest (powerAtMost 2 dm 200000000) 1000 1000 (le-refl 1000)
+          (le-leb (1000 ^ 2 * dm) 200000000 (omega arith)),
+    )

@@ -2,30 +2,20 @@
 use mathlib.Core.Path.{_≡_, refl, sym, ap}
 use mathlib.Core.Bool.{Bool, true, false, cond}
 use mathlib.Core.List.{List, [], _∷_}
-use Prim.Native.Nat.{ℕ, suc, _+_, _*_, _/_, _≤_, _<_}
-use native.Mathlib.Nat.{zero-add, mul-add, zero-div, mul-le-mul-left, div-le-of-le-mul, le-trans, min-le-left}
+use Prim.Native.Nat.{ℕ, suc, _+_, _*_, _/_, _≤_}
+use native.Mathlib.Nat.{zero-add, mul-add, zero-div, mul-le-mul-left, div-le-of-le-mul, le-trans}
 use native.Mathlib.Omega.{arith}
-use lib.Dec.{leb, ltb}
-use lib.ListN.{length, length-take}
-use borrow.Author.Tests.{leb-true, ltb-true, lt-ltb}
+use lib.ListN.{length}
+use borrow.Author.Tests.{le-leb, lt-ltb}
 use Rattle.arith.proofs.Test.{both-true}
 use Rattle.equilibrium.specs.declared.Layer.{Layer}
-use Rattle.equilibrium.specs.declared.Section.{Section}
-use Rattle.equilibrium.specs.Section.{layersOf, all, depthOk, areaOk}
-use Rattle.clauses.specs.Tension.{inTension, tensionLayers, total, areaOf, firstMoment, meanDepth, As, dm, Counts}
-
--- ---- what the tests say of a layer
-depth-low : (h : ℕ) (l : Layer) → depthOk h l ≡ true → 1 ≤ l .depth
-depth-low h l e = leb-true 1 (l .depth) (both-true (leb 1 (l .depth)) (ltb (l .depth) h) e .0)
-
-depth-high : (h : ℕ) (l : Layer) → depthOk h l ≡ true → l .depth < h
-depth-high h l e = ltb-true (l .depth) h (both-true (leb 1 (l .depth)) (ltb (l .depth) h) e .1)
-
-area-low : (l : Layer) → areaOk l ≡ true → 1 ≤ l .area
-area-low l e = leb-true 1 (l .area) (both-true (leb 1 (l .area)) (leb (l .area) 20000) e .0)
-
-area-high : (l : Layer) → areaOk l ≡ true → l .area ≤ 20000
-area-high l e = leb-true (l .area) 20000 (both-true (leb 1 (l .area)) (leb (l .area) 20000) e .1)
+use Rattle.equilibrium.specs.declared.Design.{Design}
+use Rattle.equilibrium.specs.Section.{all, depthOk, areaOk}
+use Rattle.equilibrium.specs.Code.Usable.{Usable}
+use Rattle.equilibrium.specs.Code.Columns.{areaSum}
+use Rattle.equilibrium.proofs.OneLayer.{layer-low, layer-high, steel-low, steel-high}
+use Rattle.clauses.specs.Tension.{inTension, tensionLayers, total, areaOf, firstMoment, meanDepth, As, dm}
+use Rattle.clauses.specs.Code.Ranges.{Counts}
 
 -- ---- a sum is at most B times another, where that holds of each layer that passes a test
 module _ (p : Layer → Bool) (f g : Layer → ℕ) (B : ℕ) (each : (l : Layer) → p l ≡ true → f l ≤ B * g l) where
@@ -49,11 +39,12 @@ module _ (u : ℕ) where
   next-total f false l ts = sym (zero-add (total f ts))
 
   -- the next layer's share in a sum over those in tension
-  pub tension-step : (f : Layer → ℕ) (l : Layer) (ls : List Layer) → total f (tensionLayers u (l ∷ ls)) ≡ cond (inTension u l) (f l) 0 + total f (tensionLayers u ls)
+  pub tension-step : (f : Layer → ℕ) (l : Layer) (ls : List Layer)
+      → total f (tensionLayers u (l ∷ ls)) ≡ cond (inTension u l) (f l) 0 + total f (tensionLayers u ls)
   unfolding tensionLayers
   tension-step f l ls = next-total f (inTension u l) l (tensionLayers u ls)
 
-  share : (t : Bool) (n : ℕ) → cond t n 0 ≤ n
+  pub share : (t : Bool) (n : ℕ) → cond t n 0 ≤ n
   share true n = omega arith
   share false n = omega arith
 
@@ -82,7 +73,7 @@ mean-is (l ∷ ls) = refl
 
 module _ (h : ℕ) where
   moment-high : (l : Layer) → depthOk (suc h) l ≡ true → l .area * l .depth ≤ h * l .area
-  moment-high l e = omega (arith, mul-le-mul-left {m = l .depth} {n = h} (l .area) (omega (arith, depth-high (suc h) l e)))
+  moment-high l e = omega (arith, mul-le-mul-left {m = l .depth} {n = h} (l .area) (omega (arith, layer-high (suc h) l e)))
 
   pub firstMoment-high : (ts : List Layer) → all (depthOk (suc h)) ts ≡ true → firstMoment ts ≤ h * areaOf ts
   firstMoment-high ts e = total-le (depthOk (suc h)) (λ l. l .area * l .depth) (λ l. l .area) h moment-high ts e
@@ -90,27 +81,34 @@ module _ (h : ℕ) where
   pub mean-high : (ts : List Layer) → all (depthOk (suc h)) ts ≡ true → meanDepth ts ≤ h
   mean-high ts e = rw (mean-is ts) (div-le-of-le-mul (areaOf ts) (omega (arith, firstMoment-high ts e)))
 
--- ---- a section's sums
-pub areaOf-high : (s : Section) → Counts s → areaOf (layersOf s) ≤ 320000
-areaOf-high s h =
-    let each : (l : Layer) → areaOk l ≡ true → l .area ≤ 20000 * 1 = λ l e. omega (arith, area-high l e) in
-    omega (arith, h .count-high, count-is (layersOf s), length-take (s .count) (s .layers), min-le-left (s .count) (length (s .layers)), total-le areaOk (λ l. l .area) (λ l. 1) 20000 each (layersOf s) (h .areas))
+-- ---- the sums of counted layers
+module _ {n : ℕ} (ls : List Layer) (h : Counts n ls) where
+  pub areaOf-high : areaOf ls ≤ 320000
+  areaOf-high =
+      let each : (l : Layer) → areaOk l ≡ true → l .area ≤ 20000 * 1 = λ l e. omega (arith, steel-high l e) in
+      omega (arith, h .count-high, h .counted, count-is ls, total-le areaOk (λ l. l .area) (λ l. 1) 20000 each ls (h .areas))
 
-module _ (s : Section) (u : ℕ) (h : Counts s) where
-  pub As-high : As u (layersOf s) ≤ 320000
-  As-high = le-trans (part-le u (λ l. l .area) (layersOf s)) (areaOf-high s h)
+  module _ (u : ℕ) where
+    pub As-high : As u ls ≤ 320000
+    As-high = le-trans (part-le u (λ l. l .area) ls) areaOf-high
 
-  pub moment-most : firstMoment (tensionLayers u (layersOf s)) ≤ 639680000
-  moment-most = omega (arith, As-high, firstMoment-high 1999 (tensionLayers u (layersOf s)) (all-tension u (depthOk 2000) (layersOf s) (h .depths)))
+    pub moment-most : firstMoment (tensionLayers u ls) ≤ 639680000
+    moment-most = omega (arith, As-high, firstMoment-high 1999 (tensionLayers u ls) (all-tension u (depthOk 2000) ls (h .depths)))
 
-  pub dm-high : dm u (layersOf s) ≤ 1999
-  dm-high = mean-high 1999 (tensionLayers u (layersOf s)) (all-tension u (depthOk 2000) (layersOf s) (h .depths))
+    pub dm-high : dm u ls ≤ 1999
+    dm-high = mean-high 1999 (tensionLayers u ls) (all-tension u (depthOk 2000) ls (h .depths))
+
+-- the area of all layers is the sum that the equilibrium takes
+pub area-is : (ls : List Layer) → areaSum ls ≡ areaOf ls
+unfolding areaSum total
+area-is [] = refl
+area-is (l ∷ ls) = ap (λ (n : ℕ). l .area + n) (area-is ls)
 
 -- As is 0 only where no layer is in tension: every area is at least 1
 empty : (ts : List Layer) → all areaOk ts ≡ true → areaOf ts ≡ 0 → ts ≡ []
 unfolding total
 empty [] e z = refl
-empty (l ∷ ls) e z = absurd (omega (arith, area-low l (both-true (areaOk l) (all areaOk ls) e .0)))
+empty (l ∷ ls) e z = absurd (omega (arith, steel-low l (both-true (areaOk l) (all areaOk ls) e .0)))
 
 pub no-tension : (u : ℕ) (ls : List Layer) → all areaOk ls ≡ true → As u ls ≡ 0 → tensionLayers u ls ≡ []
 no-tension u ls e z = empty (tensionLayers u ls) (all-tension u areaOk ls e) z
@@ -118,7 +116,7 @@ no-tension u ls e z = empty (tensionLayers u ls) (all-tension u areaOk ls e) z
 -- a section that passed test 6 at its own height passes it at the greatest
 deeper : {h k : ℕ} → h ≤ k → (l : Layer) → depthOk h l ≡ true → depthOk k l ≡ true
 deeper {h} {k} m l e =
-    rw (both-true (leb 1 (l .depth)) (ltb (l .depth) h) e .0) (lt-ltb (l .depth) k (omega (arith, depth-high h l e)))
+    rw (le-leb 1 (l .depth) (layer-low h l e)) (lt-ltb (l .depth) k (omega (arith, layer-high h l e)))
 
 all-deeper : {h k : ℕ} → h ≤ k → (ls : List Layer) → all (depthOk h) ls ≡ true → all (depthOk k) ls ≡ true
 all-deeper m [] e = refl
@@ -126,27 +124,32 @@ all-deeper {h} m (l ∷ ls) e =
     let t = both-true (depthOk h l) (all (depthOk h) ls) e in
     rw (deeper m l (t .0)) (all-deeper m ls (t .1))
 
-pub counts : {h : ℕ} (s : Section) → s .count ≤ 16 → h ≤ 2000 → all (depthOk h) (layersOf s) ≡ true → all areaOk (layersOf s) ≡ true → Counts s
-counts s n m d a = record { count-high = n; depths = all-deeper m (layersOf s) d; areas = a }
+pub counts : {x : Design} {n : ℕ} (ls : List Layer) → Usable x n ls → Counts n ls
+counts ls w = record { count-high = w .count-high; counted = w .counted; depths = all-deeper (w .bounded .h-high) ls (w .depths); areas = w .areas }
 
 -- ---- the loop over the layers: zs is what is left of ls
-pub record Summed (u : ℕ) (ls zs : List Layer) (area moment every : ℕ) : Type 0 where
+pub record Summed (u : ℕ) (ls zs : List Layer) (area moment : ℕ) : Type 0 where
   pub area-is : area + As u zs ≡ As u ls
   pub moment-is : moment + firstMoment (tensionLayers u zs) ≡ firstMoment (tensionLayers u ls)
-  pub every-is : every + areaOf zs ≡ areaOf ls
 
 times : (t : Bool) (a d : ℕ) → cond t (a * d) 0 ≡ cond t a 0 * d
 times true a d = refl
 times false a d = omega arith
 
-pub sum-step : {u : ℕ} {ls zs ys : List Layer} {l : Layer} {area moment every a : ℕ} → zs ≡ l ∷ ys → a ≡ cond (inTension u l) (l .area) 0 →
-    Summed u ls zs area moment every → Summed u ls ys (area + a) (moment + a * l .depth) (every + l .area)
+pub sum-step : {u : ℕ} {ls zs ys : List Layer} {l : Layer} {area moment a m : ℕ} → zs ≡ l ∷ ys → a ≡ cond (inTension u l) (l .area) 0 → m ≡ a * l .depth →
+    Summed u ls zs area moment → Summed u ls ys (area + a) (moment + m)
 unfolding total
-sum-step {u} {ls} {zs} {ys} {l} {area} {moment} {every} {a} nx e inv = record {
+sum-step {u} {ls} {zs} {ys} {l} {area} {moment} {a} nx e f inv = record {
   area-is = omega (arith, rw nx at (inv .area-is), tension-step u (λ l. l .area) l ys);
-  moment-is = omega (arith, rw nx at (inv .moment-is), tension-step u (λ l. l .area * l .depth) l ys, times (inTension u l) (l .area) (l .depth), ap (λ (n : ℕ). n * l .depth) e);
-  every-is = omega (arith, rw nx at (inv .every-is));
+  moment-is = omega (
+    arith,
+    rw nx at (inv .moment-is),
+    tension-step u (λ l. l .area * l .depth) l ys,
+    times (inTension u l) (l .area) (l .depth),
+    ap
+        (λ (n : ℕ). n * l .depth) e,
+  );
 }
 
-pub sum-done : {u : ℕ} {ls zs : List Layer} {area moment every : ℕ} → zs ≡ [] → Summed u ls zs area moment every → Summed u ls [] area moment every
+pub sum-done : {u : ℕ} {ls zs : List Layer} {area moment : ℕ} → zs ≡ [] → Summed u ls zs area moment → Summed u ls [] area moment
 sum-done nx inv = rw nx at inv

@@ -3,3 +3,4 @@ pub mod Factor
 pub mod Layers
 pub mod Roots
 pub mod Checking
+pub mod Laws

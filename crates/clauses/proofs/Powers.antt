@@ -5,7 +5,7 @@ use native.Mathlib.Nat.{one-mul, pow-suc, pow-zero, le-trans, mul-le-mul-right, 
 use native.Mathlib.Omega.{arith}
 use borrow.Author.Tests.{leb-true, le-leb}
 use Rattle.arith.proofs.Greatest.{NeverBack}
-use Rattle.clauses.specs.Power.{powerAtMost, PowerFits}
+use Rattle.clauses.specs.Code.Power.{powerAtMost, PowerFits}
 
 pub never-back : (e a y : ℕ) → NeverBack (powerAtMost e a y)
 never-back e a y j k z h t = le-leb _ _ (le-trans (mul-le-mul-right a (pow-le-pow-left h e)) (leb-true _ _ t))

@@ -6,19 +6,25 @@ use Prim.Native.Nat.{ℕ, suc, _*_, _/_, _^_, _≤_, _<_}
 use native.Mathlib.Nat.{mul-le-mul, mul-le-mul-left, mul-one, pow-le-pow-left, le-of-mul-le-mul-right, max-le, div-le-of-le-mul}
 use native.Mathlib.Decide.{decLe}
 use native.Mathlib.Omega.{arith}
-use lib.Dec.{leb, ltb}
-use lib.IntN.{ℤ, pos, negsuc, natAbs}
+use lib.Dec.{leb, ltb, le→leb}
+use lib.IntN.{ℤ, pos, negsuc, natAbs, _*ℤ_}
 use lib.Signed.{leZ, _≤ℤ_, _<ℤ_}
 use borrow.Author.Tests.{leb-true, ltb-false, le-leb}
-use Rattle.arith.specs.Greatest.{greatest}
+use Rattle.arith.specs.Floor.{floorDiv}
+use Rattle.arith.specs.Fraction.{whole, _*ᶠ_, _/ᶠ_}
+use Rattle.arith.specs.Greatest.{greatest, IsGreatest}
 use Rattle.arith.specs.Integer.{Within}
 use Rattle.arith.proofs.Bound.{lit, mul-in}
 use Rattle.arith.proofs.Floor.{floor-in}
-use Rattle.arith.proofs.Greatest.{IsGreatest, greatest-le, greatest-of-all, greatest-same}
+use Rattle.arith.proofs.Fraction.{tidy, proper, /ᶠ-proper}
+use Rattle.arith.proofs.Greatest.{greatest-le, greatest-of-all, greatest-same}
+use Rattle.arith.proofs.Quotient.{integer-per, by-value, floor-same}
+use Rattle.arith.proofs.Ring.{E, #, _⊗_, val}
 use Rattle.arith.proofs.Test.{P-neg-zero}
-use Rattle.clauses.specs.Power.{powerAtMost}
+use Rattle.clauses.specs.Code.Power.{powerAtMost}
 use Rattle.clauses.specs.SizeFactor.{K}
-use Rattle.clauses.specs.Shear.{rTest, r, qTest, q, v, c, concreteShare, axialShare, orZero, StressBounds}
+use Rattle.clauses.specs.Shear.{rTest, r, qTest, q, v, c, concreteShare, axialShare, orZero}
+use Rattle.clauses.specs.Code.Ranges.{StressBounds}
 use Rattle.clauses.proofs.Powers.{cube}
 
 -- ---- how large they are
@@ -58,9 +64,17 @@ unfolding c
 c-in {N} {g} {b} {h} n x y z =
     lesser-in (leZ N (pos (g * b * h / 500))) n (record { within = omega (arith, cap-high x y z) })
 
-pub axial-in : {x : ℤ} {dm : ℕ} (h : ℕ) → Within x 500000000 → dm ≤ 1999 → Within (axialShare x dm h) 14992500000000
+-- what N adds is a division of integers
+pub axial-is : (x : ℤ) (dm h : ℕ) → 1 ≤ h → axialShare x dm h ≡ floorDiv (pos 15 *ℤ x *ℤ pos dm) (pos (100 * h))
 unfolding axialShare
-axial-in {dm} h n z = floor-in (pos (100 * h)) (mul-in (mul-in (lit (pos 15)) n) (record { within = z }))
+axial-is x dm h low =
+    let e : E = # (pos 15) ⊗ # x ⊗ # (pos dm) in
+    let over : 1 ≤ 100 * h = omega arith in
+    floor-same (val e) (/ᶠ-proper (100 * h) (search proper) (le→leb 1 (100 * h) over)) over
+    (by-value e over (rw (integer-per x) (unfold whole _*ᶠ_ _/ᶠ_ in record { same = simp tidy (omega arith) })))
+
+pub axial-in : {x : ℤ} {dm : ℕ} (h : ℕ) → 1 ≤ h → Within x 500000000 → dm ≤ 1999 → Within (axialShare x dm h) 14992500000000
+axial-in {x} {dm} h low n z = rw (axial-is x dm h low) (floor-in (pos (100 * h)) (mul-in (mul-in (lit (pos 15)) n) (record { within = z })))
 
 -- ---- what the code computes
 module _ (b fck As dm : ℕ) where
@@ -71,6 +85,12 @@ module _ (b fck As dm : ℕ) where
   pub r-other : ltb (b * dm) (50 * As) ≡ false → greatest (powerAtMost 3 (b * dm) (100000000000 * As * fck)) 5646 ≡ r b fck As dm
   unfolding r
   r-other e = greatest-same (powerAtMost 3 (b * dm) (100000000000 * As * fck)) (rTest b fck As dm) 5646 (λ k. rw e)
+
+  -- both, as the code chooses between them
+  pub r-either : (t : Bool) → ltb (b * dm) (50 * As) ≡ t
+      → greatest (powerAtMost 3 (cond t 1 (b * dm)) (cond t (2000000000 * fck) (100000000000 * As * fck))) 5646 ≡ r b fck As dm
+  r-either true e = r-rich e
+  r-either false e = r-other e
 
 pub q-is : (fck k : ℕ) → greatest (powerAtMost 2 1000 (fck * k * k * k)) 26832 ≡ q fck k
 unfolding q
@@ -101,11 +121,13 @@ cube-below : {fck k : ℕ} → fck ≤ 90 → k ^ 3 ≤ 2000000000 * fck → k �
 cube-below h e = root-below 3 5646 (omega arith)
 
 module _ (b fck As dm : ℕ) (bounds : StressBounds b fck As dm) (some : 0 < b * dm) where
-  r-below : (k : ℕ) (t : Bool) → ltb (b * dm) (50 * As) ≡ t → cond t (leb (k ^ 3) (2000000000 * fck)) (leb (k ^ 3 * (b * dm)) (100000000000 * As * fck)) ≡ true → k ≤ 5646
+  r-below : (k : ℕ) (t : Bool) → ltb (b * dm) (50 * As) ≡ t
+      → cond t (leb (k ^ 3) (2000000000 * fck)) (leb (k ^ 3 * (b * dm)) (100000000000 * As * fck)) ≡ true → k ≤ 5646
   r-below k true s e = cube-below (bounds .fck-high) (leb-true _ _ e)
   r-below k false s e =
       let poor : 50 * As ≤ b * dm = ltb-false (b * dm) (50 * As) s in
-      let above : k ^ 3 * (b * dm) ≤ 2000000000 * fck * (b * dm) = omega (arith, leb-true (k ^ 3 * (b * dm)) (100000000000 * As * fck) e, mul-le-mul-left (2000000000 * fck) poor) in
+      let above : k ^ 3 * (b * dm) ≤ 2000000000 * fck * (b * dm) = omega
+      (arith, leb-true (k ^ 3 * (b * dm)) (100000000000 * As * fck) e, mul-le-mul-left (2000000000 * fck) poor) in
       cube-below (bounds .fck-high) (le-of-mul-le-mul-right above some)
 
   zero-passes : (t : Bool) → cond t (leb (0 ^ 3) (2000000000 * fck)) (leb (0 ^ 3 * (b * dm)) (100000000000 * As * fck)) ≡ true

@@ -5,18 +5,19 @@ use Rattle.equilibrium.specs.declared.Section.{Section}
 use Rattle.equilibrium.specs.declared.Load.{Load}
 use Rattle.equilibrium.specs.declared.Accepted.{Accepted}
 use Rattle.equilibrium.specs.declared.Accepted.the-variants as section
-use Rattle.equilibrium.specs.Section.{counted, accepted}
+use Rattle.equilibrium.specs.Section.{counted}
+use Rattle.equilibrium.specs.Refusals.{accepted}
 use Rattle.equilibrium.specs.Accuracy.{Accurate}
 use Rattle.clauses.specs.declared.Checked.{Checked}
 use Rattle.clauses.specs.declared.Checked.the-variants.{Done, Refused}
-use Rattle.clauses.specs.Check.{facing}
+use Rattle.clauses.specs.Refusals.{facing}
 
 -- The depth that Check answers and the MRd that it reports are accurate for the face compressed in that call, for M < 0 of
 -- the section turned over; and only an accepted section has them.
-abbrev pub AccurateAfter : List Layer → Load → Accepted → Checked → Type 0
-AccurateAfter ls load (section.Ready x) (Done r) = Accurate x (facing (load .m) (x .h) ls) (load .n) (r .u) (r .mrd)
-AccurateAfter ls load (section.Refused k) (Done r) = ⊥
-AccurateAfter ls load a (Refused k) = Unit {0}
+abbrev pub AccurateReport : List Layer → Load → Accepted → Checked → Type 0
+AccurateReport ls load (section.Ready x) (Done r) = Accurate x (facing (load .m) (x .h) ls) (load .n) (r .u) (r .mrd)
+AccurateReport ls load (section.Refused k) (Done r) = ⊥
+AccurateReport ls load a (Refused k) = Unit {0}
 
 abbrev pub AccurateCheck : Section → Load → Checked → Type 0
-AccurateCheck s load r = AccurateAfter (counted s .layers) load (accepted (counted s)) r
+AccurateCheck s load r = AccurateReport (counted s .layers) load (accepted (counted s)) r

@@ -1,7 +1,8 @@
 pub mod Tension
-pub mod Power
+pub mod Code
 pub mod SizeFactor
 pub mod Shear
 pub mod Verdicts
+pub mod Refusals
 pub mod Check
 pub mod Accuracy

@@ -1,13 +1,13 @@
 -- The shear resistance without shear reinforcement, 6.2.2(1): document 01, "Verdicts", the third. As is the area of the
--- tension layers, dm their mean depth, and g the concrete's strength without the block's factor. Assumes nothing.
+-- tension layers, dm their mean depth, and g the concrete's strength without the block's factor. Between whole numbers `/` is
+-- rounded down. Assumes nothing.
 use Prim.Native.Nat.{ℕ, _*_, _/_, _^_, max, _≤_}
 use mathlib.Core.Bool.{Bool, cond}
 use lib.Dec.{leb, ltb}
-use lib.IntN.{ℤ, pos, negsuc, _+ℤ_, _*ℤ_}
+use lib.IntN.{ℤ, pos, negsuc, _+ℤ_}
 use lib.Signed.{leZ}
-use Rattle.arith.specs.Floor.{floorDiv}
+use Rattle.arith.specs.Fraction.{whole, integer, _*ᶠ_, _/ᶠ_, floor}
 use Rattle.arith.specs.Greatest.{greatest}
-use Rattle.arith.specs.Integer.{Within}
 use Rattle.clauses.specs.SizeFactor.{K}
 
 -- 01's r: the greatest whole number with r³·b·dm ≤ 10¹¹·As·fck; where 50·As > b·dm, with r³ ≤ 2·10⁹·fck instead
@@ -29,7 +29,8 @@ qTest fck k q = leb (1000 * q ^ 2) (k ^ 3 * fck)
 unfoldable pub q : ℕ → ℕ → ℕ
 q fck k = greatest (qTest fck k) 26832
 
--- 01's v: the greater of 12·K·r/100 rounded down and 35·q
+-- 01's v: the greater of 12·K·r/100 rounded down and 35·q. The 12 is 100·0.18/γc with γc 1.5: a partial factor that stands here, above the
+-- seal of the materials, and not in them.
 unfoldable pub v : ℕ → ℕ → ℕ → ℕ → ℕ
 v b fck As dm = max (12 * K dm * r b fck As dm / 100) (35 * q fck (K dm))
 
@@ -45,30 +46,26 @@ unfoldable pub concreteShare : ℕ → ℕ → ℕ → ℕ → ℕ
 concreteShare b fck As dm = v b fck As dm * b * dm / 1000000
 
 unfoldable pub axialShare : ℤ → ℕ → ℕ → ℤ
-axialShare c dm h = floorDiv (pos 15 *ℤ c *ℤ pos dm) (pos (100 * h))
+axialShare c dm h = floor (whole 15 *ᶠ integer c *ᶠ whole dm /ᶠ (100 * h))
 
 -- a number, or 0 if it is negative
 abbrev pub orZero : ℤ → ℕ
 orZero (pos n) = n
 orZero (negsuc n) = 0
 
--- VRd,c: their sum, or 0 if that is negative; 0 with no tension layer
-unfoldable pub VRdc : ℕ → ℕ → ℕ → ℕ → ℤ → ℕ → ℕ → ℕ
-VRdc b h fck g N As dm =
-    cond (leb 1 As)
-    (orZero (pos (concreteShare b fck As dm) +ℤ axialShare (c N g b h) dm h))
+-- all that VRd,c is found from: the section's b and h, the concrete's fck and g, the load's N, and As and dm of the tension layers
+pub record Sheared : Type 0 where
+  pub b : ℕ
+  pub h : ℕ
+  pub fck : ℕ
+  pub g : ℕ
+  pub N : ℤ
+  pub As : ℕ
+  pub dm : ℕ
+
+-- VRd,c: the sum of both shares, or 0 if that is negative; 0 with no tension layer
+unfoldable pub VRdc : Sheared → ℕ
+VRdc x =
+    cond (leb 1 (x .As))
+    (orZero (pos (concreteShare (x .b) (x .fck) (x .As) (x .dm)) +ℤ axialShare (c (x .N) (x .g) (x .b) (x .h)) (x .dm) (x .h)))
     0
-
--- what the code asks: the ranges of an accepted section and of its materials
-pub record StressBounds (b fck As dm : ℕ) : Type 0 where
-  pub b-high : b ≤ 2000
-  pub fck-high : fck ≤ 90
-  pub As-high : As ≤ 320000
-  pub dm-high : dm ≤ 1999
-
-pub record ShearBounds (b h fck g : ℕ) (N : ℤ) (As dm : ℕ) : Type 0 where
-  pub stress : StressBounds b fck As dm
-  pub h-low : 50 ≤ h
-  pub h-high : h ≤ 2000
-  pub g-high : g ≤ 7500
-  pub N-in : Within N 500000000

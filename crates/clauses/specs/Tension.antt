@@ -1,12 +1,10 @@
 -- Tension reinforcement: document 01, "Verdicts". Assumes nothing.
-use Prim.Native.Nat.{ℕ, _+_, _*_, _/_, _≤_}
-use mathlib.Core.Bool.{Bool, true, cond}
+use Prim.Native.Nat.{ℕ, _+_, _*_, _/_}
+use mathlib.Core.Bool.{Bool, cond}
 use mathlib.Core.List.{List, [], _∷_}
-use mathlib.Core.Path.{_≡_}
 use lib.Dec.{ltb}
 use Rattle.equilibrium.specs.declared.Layer.{Layer}
-use Rattle.equilibrium.specs.declared.Section.{Section}
-use Rattle.equilibrium.specs.Section.{layersOf, all, depthOk, areaOk}
+use Rattle.equilibrium.specs.Section.{all}
 
 -- tension layers are those with 10·d > u
 abbrev pub inTension : ℕ → Layer → Bool
@@ -40,9 +38,3 @@ As u ls = areaOf (tensionLayers u ls)
 -- 01's dm, their mean depth: 0 with no tension layer
 abbrev pub dm : ℕ → List Layer → ℕ
 dm u ls = meanDepth (tensionLayers u ls)
-
--- what the code asks of a section: the tests 5 to 7, with the greatest height for test 6
-pub record Counts (s : Section) : Type 0 where
-  pub count-high : s .count ≤ 16
-  pub depths : all (depthOk 2000) (layersOf s) ≡ true
-  pub areas : all areaOk (layersOf s) ≡ true

@@ -41,11 +41,3 @@ fourth T fyk b As dm =
 -- five, 9.2.1.1(3): 25 times the area of all layers ≤ b·h
 abbrev pub fifth : ℕ → ℕ → ℕ → Verdict
 fifth area b h = judged (leb (25 * area) (b * h))
-
--- what the code asks for the fourth
-pub record LeastBounds (T fyk b As dm : ℕ) : Type 0 where
-  pub T-high : T ≤ 50
-  pub fyk-high : fyk ≤ 600
-  pub b-high : b ≤ 2000
-  pub As-high : As ≤ 320000
-  pub dm-high : dm ≤ 1999

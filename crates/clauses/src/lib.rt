@@ -1,5 +1,6 @@
 // What the clauses of EN 1992-1-1 say of a section and its load: document 01, "Verdicts".
 mod check;
+mod guess;
 pub mod numbers;
 mod power;
 mod shear;
@@ -10,9 +11,12 @@ mod verdicts;
 use equilibrium::Accepted;
 use equilibrium::Load;
 use equilibrium::Section;
-use equilibrium::tests;
+use equilibrium::refusals;
 ghost use mathlib.Core.Path.{_≡_};
-ghost use Rattle.clauses.specs.Check.{checkOf};
+ghost use Rattle.arith.specs.Chain.{firstFailing};
+ghost use Rattle.equilibrium.specs.Section.{counted};
+ghost use Rattle.clauses.specs.Refusals.{checkTests};
+ghost use Rattle.clauses.specs.Check.{checkOf, refusalNumber};
 ghost use Rattle.clauses.specs.Accuracy.{AccurateCheck};
 
 // What a clause says of the section: 0, 1 and 2 of document 01.
@@ -23,7 +27,8 @@ pub enum Verdict {
 }
 
 // What Check finds of an accepted section and load: depth of the neutral axis in tenths of a millimetre, MRd in N·mm,
-// VRd,c in newtons, dm and As in mm and mm², and the five verdicts in document 01's sequence.
+// VRd,c in newtons, dm and As in mm and mm², and the verdicts in document 01's sequence and numbers. An enum holds no array:
+// here they stand by name, and in `Listed` as one array.
 pub struct Report {
     pub u: u64,
     pub mrd: i64,
@@ -31,15 +36,15 @@ pub struct Report {
     pub dm: u64,
     pub area: u64,
     // 6.1
-    pub moment: Verdict,
+    pub moment: u64,
     // 5.6.3(2)
-    pub depth: Verdict,
+    pub depth: u64,
     // 6.2.2
-    pub shear: Verdict,
+    pub shear: u64,
     // 9.2.1.1(1)
-    pub least: Verdict,
+    pub least: u64,
     // 9.2.1.1(3)
-    pub most: Verdict,
+    pub most: u64,
 }
 
 pub enum Checked {
@@ -47,8 +52,8 @@ pub enum Checked {
     Refused(u8),
 }
 
-// Document 01's numbers for each case of the answer: the refusal, 0 for none, what is reported, and the five verdicts, 0 pass,
-// 1 fail, 2 not reached. A refusal has zeros and 2s.
+// Document 01's numbers for each case of the answer: the refusal, 0 for none, what is reported, and the verdicts in 01's
+// sequence, 0 pass, 1 fail, 2 not reached. A refusal has zeros and 2s.
 #[repr(C)]
 pub struct Listed {
     pub refusal: u64,
@@ -57,23 +62,20 @@ pub struct Listed {
     pub vrd: u64,
     pub dm: u64,
     pub area: u64,
-    pub v1: u64,
-    pub v2: u64,
-    pub v3: u64,
-    pub v4: u64,
-    pub v5: u64,
+    pub verdicts: [u64; 5],
 }
 
 // Check a section under a load, for the face that M compresses.
-// Refusals: 1 to 7 of the section, 8 N, 9 M and 10 V out of range, 11 and 12 N outside what the face compressed can carry.
+// Refusals: the section tests, the load tests, 11 and 12 N outside what the face compressed can carry.
 pub fn check_section(s: Section, l: Load) -> Checked
     ensures { λ r. ⌜ r ≡ checkOf s l ⌝ }
+    ensures refusal { λ r. ⌜ refusalNumber r ≡ firstFailing (checkTests (counted s) l) ⌝ }
     ensures accurate { λ r. ⌜ AccurateCheck s l r ⌝ }
 {
-    match tests::accept(s) {
+    match refusals::accept(s) {
         Accepted::Refused(k) => Checked::Refused(k),
         Accepted::Ready(x) => {
-            let k = tests::load_refusal(l);
+            let k = refusals::load_refusal(l);
             if k == 0 {
                 check::check_accepted(x, s, l)
             } else {

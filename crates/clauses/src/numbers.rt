@@ -4,10 +4,10 @@ use super::Listed;
 use super::Report;
 use super::Verdict;
 ghost use mathlib.Core.Path.{_≡_};
-ghost use Rattle.clauses.specs.Check.{refused, listed};
+ghost use Rattle.clauses.specs.Check.{refusedListed, listed};
 ghost use Rattle.clauses.specs.Verdicts.{numberOf};
 
-fn verdict_number(v: Verdict) -> u64
+pub fn verdict_number(v: Verdict) -> u64
     ensures { λ r. ⌜ r ≡ numberOf v ⌝ }
 {
     match v {
@@ -17,33 +17,32 @@ fn verdict_number(v: Verdict) -> u64
     }
 }
 
-// A refusal has zeros and five 2s.
-pub fn refused_listed(k: u8) -> Listed
-    ensures { λ r. ⌜ r ≡ refused k ⌝ }
+// A refusal has zeros and a 2 for each verdict.
+pub fn refused_listed(k: u64) -> Listed
+    ensures { λ r. ⌜ r ≡ refusedListed k ⌝ }
 {
+    let verdicts = [2u64; 5];
     Listed {
-        refusal: k as u64,
+        refusal: k,
         u: 0,
         mrd: 0,
         vrd: 0,
         dm: 0,
         area: 0,
-        v1: 2,
-        v2: 2,
-        v3: 2,
-        v4: 2,
-        v5: 2,
+        verdicts: verdicts,
     }
 }
 
 fn report_listed(report: Report) -> Listed
     ensures { λ r. ⌜ r ≡ listed (Checked.Done report) ⌝ }
 {
-    let moment = report.moment;
-    let depth = report.depth;
-    let shear = report.shear;
-    let least = report.least;
-    let most = report.most;
+    let verdicts = [
+        report.moment,
+        report.depth,
+        report.shear,
+        report.least,
+        report.most,
+    ];
     Listed {
         refusal: 0,
         u: report.u,
@@ -51,11 +50,7 @@ fn report_listed(report: Report) -> Listed
         vrd: report.vrd,
         dm: report.dm,
         area: report.area,
-        v1: verdict_number(moment),
-        v2: verdict_number(depth),
-        v3: verdict_number(shear),
-        v4: verdict_number(least),
-        v5: verdict_number(most),
+        verdicts: verdicts,
     }
 }
 
@@ -63,7 +58,7 @@ pub fn checked_listed(c: Checked) -> Listed
     ensures { λ r. ⌜ r ≡ listed c ⌝ }
 {
     match c {
-        Checked::Refused(k) => refused_listed(k),
+        Checked::Refused(k) => refused_listed(k as u64),
         Checked::Done(report) => report_listed(report),
     }
 }

@@ -1,10 +1,19 @@
 // The shear resistance without shear reinforcement, 6.2.2(1): document 01, "Verdicts", the third.
-use super::power::greatest_power;
+use super::guess::cube_root;
+use super::guess::square_root;
 use super::size::size_factor;
+ghost use mathlib.Core.Bool.{cond};
 ghost use mathlib.Core.Path.{_≡_};
 ghost use Prim.Native.Nat.{max, _*_, _≤_};
 ghost use Rattle.arith.specs.Integer.{Within};
-ghost use Rattle.clauses.specs.Shear.{r, q, v, c, concreteShare, axialShare, orZero, VRdc, StressBounds, ShearBounds};
+ghost use Rattle.clauses.specs.Shear.{r, q, v, c, concreteShare, axialShare, orZero, VRdc};
+ghost use Rattle.clauses.specs.Code.Ranges.{StressBounds, ShearBounds};
+
+fn either(t: bool, x: u64, y: u64) -> u64
+    ensures { λ z. ⌜ z ≡ cond t x y ⌝ }
+{
+    if t { x } else { y }
+}
 
 // r, from the longitudinal reinforcement ratio As/(b·dm), which counts up to 0.02.
 fn ratio_root(b: u64, fck: u64, area: u64, dm: u64) -> u64
@@ -12,11 +21,10 @@ fn ratio_root(b: u64, fck: u64, area: u64, dm: u64) -> u64
     ensures { λ x. ⌜ x ≡ r b fck area dm ⌝ }
 {
     let concrete = b * dm;
-    if concrete < 50 * area {
-        greatest_power(3, 1, 2000000000 * fck, 5646)
-    } else {
-        greatest_power(3, concrete, 100000000000 * area * fck, 5646)
-    }
+    let rich = concrete < 50 * area;
+    let a = either(rich, 1, concrete);
+    let y = either(rich, 2000000000 * fck, 100000000000 * area * fck);
+    cube_root(a, y)
 }
 
 // q, of (6.3N).
@@ -24,7 +32,7 @@ fn least_root(fck: u64, k: u64) -> u64
     requires { ⌜ (fck ≤ 90) × (k ≤ 2000) ⌝ }
     ensures { λ x. ⌜ x ≡ q fck k ⌝ }
 {
-    greatest_power(2, 1000, fck * k * k * k, 26832)
+    square_root(fck * k * k * k)
 }
 
 fn greater(x: u64, y: u64) -> u64
@@ -76,8 +84,8 @@ fn or_zero(x: i64) -> u64
 
 // VRd,c in newtons.
 pub fn shear_resistance(b: u64, h: u64, fck: u64, g: u64, n: i64, area: u64, dm: u64) -> u64
-    requires { ⌜ ShearBounds b h fck g n area dm ⌝ }
-    ensures { λ x. ⌜ x ≡ VRdc b h fck g n area dm ⌝ }
+    requires { ⌜ ShearBounds (record { b = b; h = h; fck = fck; g = g; N = n; As = area; dm = dm }) ⌝ }
+    ensures { λ x. ⌜ x ≡ VRdc (record { b = b; h = h; fck = fck; g = g; N = n; As = area; dm = dm }) ⌝ }
 {
     if area < 1 {
         return 0;

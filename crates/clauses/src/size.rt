@@ -1,6 +1,6 @@
 // The size factor of 6.2.2(1), as the manual prints it: document 01, "Verdicts", the third.
 ghost use mathlib.Core.Path.{_≡_};
-ghost use Prim.Native.Nat.{_≤_};
+ghost use Prim.Native.Nat.{_+_, _≤_, _<_};
 ghost use Rattle.clauses.specs.SizeFactor.{K, Printed};
 
 // K in thousandths for each dm from 200 to 1,999. The only place where the table is written.
@@ -1807,12 +1807,30 @@ const FACTORS: [u16; 1800] = [
     1316,
 ];
 
-// The table as one value, so that its rule is proved of all entries at once. The compiled code lays out its 3,600 bytes
-// at each call: a `u16` holds every factor, and there is no constant that is read where it lies.
-fn factors() -> [u16; 1800]
-    ensures { λ r. ⌜ Printed r ⌝ }
+// K at an entry of the manual's table.
+fn entry(table: &[u16; 1800], i: usize) -> u16
+    requires { ⌜ Printed (now table) × (i < 1800) ⌝ }
+    ensures { λ r. ⌜ r ≡ K (200 + i) ⌝ }
 {
-    FACTORS
+    table[i]
+}
+
+// The entries below 512, for effective depths up to 711 mm. There is no constant that is read where it lies: the compiled code lays the
+// table out on the stack, but only as far as an entry can be asked for. The remainder says how far that is, and changes nothing.
+fn near_factor(i: usize) -> u16
+    requires { ⌜ i < 512 ⌝ }
+    ensures { λ r. ⌜ r ≡ K (200 + i) ⌝ }
+{
+    let table = FACTORS;
+    entry(&table, i % 512)
+}
+
+fn far_factor(i: usize) -> u16
+    requires { ⌜ i < 1800 ⌝ }
+    ensures { λ r. ⌜ r ≡ K (200 + i) ⌝ }
+{
+    let table = FACTORS;
+    entry(&table, i)
 }
 
 // K of an effective depth in mm: below 200 it is 2,000. No section has one above 1,999.
@@ -1824,6 +1842,8 @@ pub fn size_factor(dm: u64) -> u64
         return 2000;
     }
     let i = (dm - 200) as usize;
-    let table = factors();
-    table[i] as u64
+    if i < 512 {
+        return near_factor(i) as u64;
+    }
+    far_factor(i) as u64
 }

@@ -1,72 +1,79 @@
-// Tension reinforcement: As, dm and the area of all layers. Document 01, "Verdicts".
-use equilibrium::Layer;
-use equilibrium::Section;
+// Tension reinforcement: As and dm. Document 01, "Verdicts".
 ghost use mathlib.Core.Bool.{cond};
 ghost use mathlib.Core.Path.{_≡_};
-ghost use Rattle.equilibrium.specs.Section.{layersOf};
-ghost use Rattle.clauses.specs.Tension.{inTension, tensionLayers, areaOf, firstMoment, As, dm, Counts};
+ghost use Prim.Native.Nat.{_*_, _≤_};
+ghost use Rattle.equilibrium.specs.Code.Columns.{layersIn};
+ghost use Rattle.clauses.specs.Tension.{inTension, tensionLayers, firstMoment, As, dm};
+ghost use Rattle.clauses.specs.Code.Ranges.{Counts};
 
-// The sums over the layers: area and first moment of those in tension, and the area of all.
-pub struct Sums {
-    pub area: u64,
-    pub moment: u64,
-    pub all: u64,
+// The sums over the layers in tension: area and first moment.
+struct Sums {
+    area: u64,
+    moment: u64,
 }
 
-// As, dm and the area of all layers.
+// As and dm.
 pub struct Reinforcement {
     pub area: u64,
     pub depth: u64,
-    pub all: u64,
 }
 
 // The layer's area if it is in tension. A function, so that the loop over layers has no branch.
-fn tension_area(u: u64, l: Layer) -> u64
-    ensures { λ r. ⌜ r ≡ cond (inTension u l) (l .area) 0 ⌝ }
+fn tension_area(u: u64, depth: u32, area: u32) -> u64
+    ensures { λ r. ⌜ r ≡ cond (inTension u (record { depth = depth; area = area })) area 0 ⌝ }
 {
-    if u < 10 * (l.depth as u64) {
-        l.area as u64
+    if u < 10 * (depth as u64) {
+        area as u64
     } else {
         0
     }
 }
 
-// The one loop over the layers. It reads the places in a local: `layer_at` would copy the section for each layer.
-fn layer_sums(s: Section, u: u64) -> Sums
-    requires { ⌜ Counts s ⌝ }
-    ensures { λ r. ⌜ (r .area ≡ As u (layersOf s)) × ((r .moment ≡ firstMoment (tensionLayers u (layersOf s))) × (r .all ≡ areaOf (layersOf s))) ⌝ }
+// Its first moment, for the area that counts.
+fn first_moment(area: u64, depth: u32) -> u64
+    requires { ⌜ (area ≤ 20000) × (depth ≤ 2000) ⌝ }
+    ensures { λ r. ⌜ r ≡ area * depth ⌝ }
+{
+    area * depth as u64
+}
+
+// The one loop over the layers.
+fn layer_sums(count: usize, depths: &[u32; 16], areas: &[u32; 16], u: u64) -> Sums
+    requires { ⌜ Counts count (layersIn count (now depths) (now areas)) ⌝ }
+    ensures area { λ r. ⌜ r .area ≡ As u (layersIn count (now (depths .entry)) (now (areas .entry))) ⌝ }
+    ensures moment { λ r. ⌜ r .moment ≡ firstMoment (tensionLayers u (layersIn count (now (depths .entry)) (now (areas .entry)))) ⌝ }
 {
     let mut area: u64 = 0;
     let mut moment: u64 = 0;
-    let mut all: u64 = 0;
-    let layers = s.layers;
-    let count = s.count;
     let mut i: usize = 0;
     while i < count {
-        let l = layers[i];
-        let a = tension_area(u, l);
+        let depth = depths[i];
+        let a = tension_area(u, depth, areas[i]);
         area += a;
-        moment += a * (l.depth as u64);
-        all += l.area as u64;
+        moment += first_moment(a, depth);
         i += 1;
     }
     Sums {
         area: area,
         moment: moment,
-        all: all,
     }
 }
 
 // The reinforcement of a section at the depth u.
-pub fn tension_reinforcement(s: Section, u: u64) -> Reinforcement
-    requires { ⌜ Counts s ⌝ }
-    ensures { λ r. ⌜ (r .area ≡ As u (layersOf s)) × ((r .depth ≡ dm u (layersOf s)) × (r .all ≡ areaOf (layersOf s))) ⌝ }
+pub fn tension_reinforcement(
+    count: usize,
+    depths: &[u32; 16],
+    areas: &[u32; 16],
+    u: u64,
+) -> Reinforcement
+    requires { ⌜ Counts count (layersIn count (now depths) (now areas)) ⌝ }
+    ensures area { λ r. ⌜ r .area ≡ As u (layersIn count (now (depths .entry)) (now (areas .entry))) ⌝ }
+    ensures depth { λ r. ⌜ r .depth ≡ dm u (layersIn count (now (depths .entry)) (now (areas .entry))) ⌝ }
 {
-    let t = layer_sums(s, u);
+    let t = layer_sums(count, depths, areas, u);
     let depth = if t.area == 0 { 0 } else { t.moment / t.area };
     Reinforcement {
         area: t.area,
         depth: depth,
-        all: t.all,
     }
 }

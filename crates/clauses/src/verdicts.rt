@@ -3,7 +3,8 @@ use super::Verdict;
 ghost use mathlib.Core.Path.{_≡_};
 ghost use Prim.Native.Nat.{_≤_};
 ghost use Rattle.arith.specs.Integer.{Within};
-ghost use Rattle.clauses.specs.Verdicts.{judged, reached, first, second, third, fourth, fifth, LeastBounds};
+ghost use Rattle.clauses.specs.Verdicts.{judged, reached, first, second, third, fourth, fifth};
+ghost use Rattle.clauses.specs.Code.Ranges.{LeastBounds};
 
 fn judge(passes: bool) -> Verdict
     ensures { λ r. ⌜ r ≡ judged passes ⌝ }
@@ -30,9 +31,9 @@ pub fn moment_verdict(m: i64, mrd: i64) -> Verdict
     judge(arith::magnitude(m) as i64 <= mrd)
 }
 
-// Two, 5.6.3(2): the depth of the neutral axis, u in tenths of a millimetre.
+// Two, 5.6.3(2): the depth of the neutral axis, u in tenths of a millimetre. No depth is above 30h.
 pub fn depth_verdict(fck: u64, u: u64, area: u64, dm: u64) -> Verdict
-    requires { ⌜ (u ≤ 20000) × (dm ≤ 1999) ⌝ }
+    requires { ⌜ (u ≤ 60000) × (dm ≤ 1999) ⌝ }
     ensures { λ r. ⌜ r ≡ second fck u area dm ⌝ }
 {
     if fck <= 50 {

@@ -11,10 +11,13 @@ ghost use Rattle.equilibrium.specs.Depth.{findDepth};
 ghost use Rattle.equilibrium.specs.Moment.{momentAt};
 ghost use Rattle.clauses.specs.Check.{checkOf, listed};
 ghost use Rattle.equilibrium.specs.Section.{counted};
-ghost use Rattle.record.specs.Read.{readOf};
+ghost use Rattle.arith.specs.Chain.{firstFailing};
+ghost use Rattle.record.specs.Refusals.{readTests, writeTests};
+ghost use Rattle.record.specs.Read.{readOf, RestIgnored};
 ghost use Rattle.record.specs.Write.{writtenOf, bufferOf};
-ghost use Rattle.listing.specs.Buffer.{Put};
-ghost use Rattle.engine.specs.Answers.{depthAnswer, momentAnswer, listText};
+ghost use Rattle.record.specs.RoundTrip.{ReadsBack};
+ghost use Rattle.listing.specs.Answers.{listWritten, listBuffer};
+ghost use Rattle.engine.specs.Answers.{depthAnswer, momentAnswer};
 
 // The refusal, 0 for none, and the depth in tenths of a millimetre.
 #[repr(C)]
@@ -72,6 +75,8 @@ pub extern "C" fn salwoerk_check(s: Section, l: Load) -> Listed
 #[no_mangle]
 pub extern "C" fn salwoerk_read(bytes: &[u8]) -> Reading
     ensures { λ r. ⌜ r ≡ readOf (now (bytes .entry)) ⌝ }
+    ensures refusal { λ r. ⌜ r .refusal ≡ firstFailing (readTests (now (bytes .entry))) ⌝ }
+    ensures rest_ignored { λ r. ⌜ RestIgnored (now (bytes .entry)) r ⌝ }
 {
     record::reader::read(bytes)
 }
@@ -80,22 +85,18 @@ pub extern "C" fn salwoerk_read(bytes: &[u8]) -> Reading
 pub extern "C" fn salwoerk_write(s: Section, l: Load, buffer: &mut [u8]) -> Written
     ensures { λ r. ⌜ r ≡ writtenOf (counted s) l (now (buffer .entry)) ⌝ }
     ensures lent { λ _. ⌜ now (buffer .exit) ≡ bufferOf (counted s) l (now (buffer .entry)) ⌝ }
+    ensures refusal { λ r. ⌜ r .refusal ≡ firstFailing (writeTests (counted s) l (now (buffer .entry))) ⌝ }
+    ensures round_trip { λ r. ⌜ ReadsBack s l r (now (buffer .exit)) ⌝ }
 {
     record::writer::write(s, l, buffer)
 }
 
-// The lines of the list of an input's records, without the first line: how many bytes they are. Where the buffer is shorter than
-// 12 bytes for each byte of input and 48, it is left as it is and 0 is answered: a list can be so long.
+// The lines of the list of an input's records, without the first line: how many bytes they are, 0 for an input without a record.
+// 25, and no byte changed, where the buffer is shorter than 12 bytes for each byte of input and 48: a list can be so long.
 #[no_mangle]
-pub extern "C" fn salwoerk_list(input: &[u8], out: &mut [u8]) -> usize
-    ensures { λ r. ⌜ Put (now (out .entry)) 0 (listText (now (input .entry)) (now (out .entry))) (now (out .exit)) r ⌝ }
+pub extern "C" fn salwoerk_list(input: &[u8], out: &mut [u8]) -> Written
+    ensures { λ r. ⌜ r ≡ listWritten (now (input .entry)) (now (out .entry)) ⌝ }
+    ensures lent { λ _. ⌜ now (out .exit) ≡ listBuffer (now (input .entry)) (now (out .entry)) ⌝ }
 {
-    let room = out.len();
-    if room < 48 {
-        return 0;
-    }
-    if (room - 48) / 12 < input.len() {
-        return 0;
-    }
     listing::list(input, out)
 }

@@ -1,49 +1,75 @@
--- At depth 1 every layer stands at −s/100, whatever its own depth: so refusal 11 never depends on the face. Assumes nothing.
-use Prim.Native.Nat.{ℕ, _*_, _≤_}
-use mathlib.Core.Bool.{true}
+-- At depth 1 every layer stands at −s/100, whatever its own depth: so refusal 11 is one comparison of numbers, without a walk over the
+-- layers, and never depends on the face. Assumes nothing.
+use Prim.Native.Nat.{ℕ, _+_, _*_, _≤_}
+use mathlib.Core.Bool.{true, false}
 use mathlib.Core.List.{List, [], _∷_}
 use mathlib.Core.Path.{_≡_, refl, sym, ap, _∙_}
 use native.Mathlib.Nat.{mul-le-mul-left}
 use native.Mathlib.Omega.{arith}
-use lib.Dec.{leb, ltb}
-use borrow.Author.Tests.{leb-true}
-use Rattle.arith.specs.Fraction.{by, whole, ratio, _+ᶠ_, _-ᶠ_, _*ᶠ_, _/ᶠ_, _≤ᶠ_, held}
-use Rattle.arith.proofs.Fraction.{tidy, tested, holds-true}
-use Rattle.arith.proofs.Test.{both-true}
+use lib.IntN.{ℤ, pos}
+use lib.Signed.{leZ, ltZ, _≤ℤ_, _<ℤ_}
+use Rattle.arith.proofs.Ring.{E, #, _⊕_, _⊝_, _⊗_, le!, le?, lt!, lt?}
+use Rattle.arith.proofs.Test.{both-true, lt-true, lt-false, true-le, false-le}
 use Rattle.equilibrium.specs.declared.Layer.{Layer}
 use Rattle.equilibrium.specs.declared.Design.{Design}
 use Rattle.equilibrium.specs.Section.{all, depthOk}
-use Rattle.equilibrium.specs.Usable.{Bounded, Usable}
-use Rattle.equilibrium.specs.Force.{at, concreteForce, stress, layerForce, steelForce, internalForce}
-use Rattle.equilibrium.specs.Turned.{turnedLayer, turned}
+use Rattle.equilibrium.specs.Code.Usable.{Bounded, Usable}
+use Rattle.equilibrium.specs.Turned.{turned}
+use Rattle.equilibrium.specs.Refusals.{carries}
+use Rattle.equilibrium.specs.Code.Columns.{areaSum}
+use Rattle.equilibrium.specs.Code.Whole.{liftAt, liftSum, restAt, excessBy, excess}
+use Rattle.equilibrium.proofs.Whole.{lifted-low, carries-is}
+use Rattle.equilibrium.proofs.InColumns.{area-turned}
+use Rattle.equilibrium.proofs.OneLayer.{layer-low}
 use Rattle.equilibrium.proofs.Turned.{usable-turned}
 
-depth-low : (h : ℕ) (l : Layer) → depthOk h l ≡ true → 1 ≤ l .depth
-depth-low h l e = leb-true 1 (l .depth) (both-true (leb 1 (l .depth)) (ltb (l .depth) h) e .0)
+-- 520·9 is above 600
+lift-one : (x : Design) (d : ℕ) → Bounded x → 1 ≤ d → liftAt x 1 d ≡ 0
+lift-one x d b h =
+    lifted-low ((100 * x .m .e + x .m .s) * 1) (2 * x .m .s * 1) (1000 * x .m .e * d)
+    (omega (arith, mul-le-mul-left (1000 * x .m .e) h, b .materials .E-low, b .materials .s-high))
 
--- E·(1 − 10d) is at most −s/100, as 520·9 is above 600
-below : (x : Design) (l : Layer) → Bounded x → 1 ≤ l .depth →
-    whole (x .m .e) *ᶠ (ratio (at 1) -ᶠ whole (10 * l .depth)) /ᶠ at 1 ≤ᶠ whole 0 -ᶠ whole (x .m .s) /ᶠ by 100
-unfolding whole ratio by _*ᶠ_ _-ᶠ_ _/ᶠ_
-below x l b d =
-    record { le = simp tidy (omega (arith, mul-le-mul-left (x .m .e) d, b .materials .s-high, b .materials .E-low)) }
+lift-all : (x : Design) (h : ℕ) (ls : List Layer) → Bounded x → all (depthOk h) ls ≡ true → liftSum x ls 1 ≡ 0
+unfolding liftSum
+lift-all x h [] b e = refl
+lift-all x h (l ∷ ls) b e =
+    let t = both-true (depthOk h l) (all (depthOk h) ls) e in
+    rw (lift-one x (l .depth) b (layer-low h l (t .0))) (omega (arith, lift-all x h ls b (t .1)))
 
-pub stress-one : (x : Design) (l : Layer) → Bounded x → 1 ≤ l .depth → stress x l (at 1) ≡ whole 0 -ᶠ whole (x .m .s) /ᶠ by 100
-unfolding stress held
-stress-one x l b d = rw (holds-true (tested _ _) (below x l b d))
+module _ {x : Design} {n : ℕ} (ls : List Layer) (N : ℤ) (w : Usable x n ls) where
+  abbrev concrete : ℤ
+  concrete = pos (x .m .f * x .m .l * x .b)
 
--- so the force of the layers is the same turned over
-steel-one : (x : Design) (h : ℕ) (ls : List Layer) → Bounded x → all (depthOk h) ls ≡ true → all (depthOk h) (turned h ls) ≡ true →
-    steelForce x (turned h ls) (at 1) ≡ steelForce x ls (at 1)
-unfolding turned steelForce layerForce
-steel-one x h [] b d e = refl
-steel-one x h (l ∷ ls) b d e =
-    let here = both-true (depthOk h l) (all (depthOk h) ls) d in
-    let there = both-true (depthOk h (turnedLayer h l)) (all (depthOk h) (turned h ls)) e in
-    let one = stress-one x l b (depth-low h l (here .0)) in
-    let other = stress-one x (turnedLayer h l) b (depth-low h (turnedLayer h l) (there .0)) in
-    λ i. whole (l .area) *ᶠ (other ∙ sym one) i +ᶠ steel-one x h ls b (here .1) (there .1) i
+  abbrev rest : ℤ
+  rest = restAt x (areaSum ls) N
 
-pub force-one : {x : Design} {count : ℕ} (ls : List Layer) → Usable x count ls → internalForce x (turned (x .h) ls) (at 1) ≡ internalForce x ls (at 1)
-unfolding internalForce
-force-one {x} ls w = ap (λ t. concreteForce x (at 1) +ᶠ t) (steel-one x (x .h) ls (w .bounded) (w .depths) (usable-turned ls w .depths))
+  abbrev here : E
+  here = (# (pos (x .m .f * x .m .l * x .b * 1)) ⊝ # rest) ⊗ # (pos 1) ⊕ # (pos (800 * liftSum x ls 1))
+
+  no-lift : liftSum x ls 1 ≡ 0
+  no-lift = lift-all x (x .h) ls (w .bounded) (w .depths)
+
+  over-one : rest <ℤ concrete → carries x ls N 1 ≡ false
+  unfolding excess
+  over-one h = carries-is x ls N (omega arith) ∙ false-le (excess x ls N 1) (pos 0) (lt! (# (pos 0)) here (omega (arith, lt? (# rest) (# concrete) h)))
+
+  under-one : concrete ≤ℤ rest → carries x ls N 1 ≡ true
+  unfolding excess
+  under-one h = carries-is x ls N (omega arith) ∙ true-le (excess x ls N 1) (pos 0) (le! here (# (pos 0)) (omega (arith, le? (# concrete) (# rest) h, no-lift)))
+
+  -- the test of the two numbers, as they are read
+  module _ {r c : ℤ} (e : r ≡ rest) (f : c ≡ concrete) where
+    pub one-fails : ltZ r c ≡ true → carries x ls N 1 ≡ false
+    one-fails h = over-one (rw (e, f) at (lt-true r c h))
+
+    pub one-passes : ltZ r c ≡ false → carries x ls N 1 ≡ true
+    one-passes h = under-one (rw (e, f) at (lt-false r c h))
+
+-- the same for both faces
+pub one-turned : {x : Design} {n : ℕ} (ls : List Layer) (N : ℤ) → Usable x n ls → carries x (turned (x .h) ls) N 1 ≡ carries x ls N 1
+unfolding excess
+one-turned {x} ls N w =
+    let there = turned (x .h) ls in
+    let same : excess x there N 1 ≡ excess x ls N 1 = λ i. excessBy x (area-turned (x .h) ls i) N
+    ((no-lift there N (usable-turned ls w) ∙ sym (no-lift ls N w)) i) 1 in
+    carries-is x there N (omega arith) ∙ ap (λ (z : ℤ). leZ z (pos 0)) same ∙ sym (carries-is x ls N (omega arith))

@@ -1,4 +1,5 @@
 pub mod Walk
+pub mod OneLayer
 pub mod Usable
 pub mod Rising
 pub mod Nearness
@@ -8,4 +9,5 @@ pub mod Whole
 pub mod Sizes
 pub mod Turned
 pub mod DepthOne
-pub mod Columns
+pub mod InColumns
+pub mod Trials

@@ -7,16 +7,18 @@ use native.Mathlib.Numerals.{one-add}
 use native.Mathlib.Omega.{arith}
 use lib.ListN.{length}
 use lib.IntN.{ℤ, _+ℤ_}
-use Rattle.arith.specs.Fraction.{Fraction, Proper, Ratio, by, whole, integer, ratio, _+ᶠ_, _-ᶠ_, _*ᶠ_, _/ᶠ_, left, right, _≤ᶠ_, _≤ʳ_, DifferAtMost, floor}
-use Rattle.arith.proofs.Fraction.{tidy, sides, exchange, Positive, by-positive, proper, +ᶠ-proper, +ᶠ-mono, swap, differences, integer-add, floor-near, differ-trans, differ-add, differ-same}
+use Rattle.arith.specs.Fraction.{Fraction, Proper, Ratio, whole, integer, ratio, _+ᶠ_, _-ᶠ_, _*ᶠ_, _/ᶠ_, left, right, _≤ᶠ_, DifferAtMost, floor}
+use Rattle.arith.proofs.Fraction.{tidy, sides, exchange, Positive, proper, +ᶠ-proper, +ᶠ-mono, swap, differences, integer-add, floor-near}
+use Rattle.arith.proofs.Fraction.{differ-trans, differ-add, differ-same}
 use Rattle.equilibrium.specs.declared.Layer.{Layer}
 use Rattle.equilibrium.specs.declared.Design.{Design}
-use Rattle.equilibrium.specs.Force.{at, concreteForce, layerForce, steelForce, internalForce, concreteMoment, layerMoment, steelMoment, unroundedMoment, steelResistance, momentResistance}
-use Rattle.equilibrium.proofs.Rising.{concrete-proper, layer-proper, steel-proper, layer-mono}
+use Rattle.equilibrium.specs.Force.{at, concreteForce, layerForce, steelForce, internalForce}
+use Rattle.equilibrium.specs.Force.{concreteMoment, layerMoment, steelMoment, unroundedMoment, steelResistance, momentResistance}
+use Rattle.equilibrium.proofs.Rising.{at-positive, at-whole, concrete-proper, layer-proper, steel-proper, layer-mono}
 use Rattle.equilibrium.proofs.Usable.{DepthsWithin}
 
 abbrev half : ℕ → Fraction
-half h = whole h /ᶠ by 2
+half h = whole h /ᶠ 2
 
 -- the share of a part whose force goes from a to b, and that is rounded n times
 abbrev share : ℕ → ℕ → Fraction → Fraction → Fraction
@@ -25,7 +27,7 @@ share h n a b = half h *ᶠ (b -ᶠ a) +ᶠ whole n
 -- ---- the shares add up
 
 spread : (h : ℕ) (a b : Fraction) → half h *ᶠ a +ᶠ half h *ᶠ b ≤ᶠ half h *ᶠ (a +ᶠ b)
-unfolding _*ᶠ_ _+ᶠ_ _/ᶠ_ whole by
+unfolding _*ᶠ_ _+ᶠ_ _/ᶠ_ whole
 spread h a b = record { le = simp tidy (omega arith) }
 
 shares : (h m n : ℕ) (a b c d : Fraction) → share h m a b +ᶠ share h n c d ≤ᶠ share h (m + n) (a +ᶠ c) (b +ᶠ d)
@@ -33,7 +35,8 @@ shares h m n a b c d = rw (swap (half h *ᶠ (b -ᶠ a)) (whole m) (half h *ᶠ 
     (+ᶠ-mono (spread h (b -ᶠ a) (d -ᶠ c)) (unfold whole _+ᶠ_ in omega arith))
 
 join : (h m n : ℕ) {a b c d M M′ : Fraction} (r r′ : ℤ) → Proper a → Proper b → Proper c → Proper d → Proper M → Proper M′ →
-    DifferAtMost (share h m a b) M (integer r) → DifferAtMost (share h n c d) M′ (integer r′) → DifferAtMost (share h (m + n) (a +ᶠ c) (b +ᶠ d)) (M +ᶠ M′) (integer (r +ℤ r′))
+    DifferAtMost (share h m a b) M (integer r) → DifferAtMost (share h n c d) M′ (integer r′) → DifferAtMost (share h (m + n) (a +ᶠ c) (b +ᶠ d)) (M +ᶠ M′)
+    (integer (r +ℤ r′))
 join h m n {a} {b} {c} {d} r r′ pa pb pc pd pM pM′ v w =
     differ-same {b = integer r +ᶠ integer r′} (search proper) (search proper) (integer-add r r′)
     (differ-add {e = share h m a b} {f = share h n c d} (search proper) (search proper) pM (search proper) pM′ (search proper) (shares h m n a b c d) v w)
@@ -42,7 +45,7 @@ join h m n {a} {b} {c} {d} r r′ pa pb pc pd pM pM′ v w =
 
 arm-near : (h d : ℕ) {a b : Fraction} → d ≤ h → a ≤ᶠ b →
     DifferAtMost (half h *ᶠ (b -ᶠ a)) (b *ᶠ (half h -ᶠ whole d)) (a *ᶠ (half h -ᶠ whole d))
-unfolding _*ᶠ_ _-ᶠ_ _+ᶠ_ _/ᶠ_ whole by
+unfolding _*ᶠ_ _-ᶠ_ _+ᶠ_ _/ᶠ_ whole
 arm-near h d {a} {b} l k = record {
   most = record {
     le = sides (K * (h * (left a b + right a b) + 2 * (d * left a b))) (K * (h * (left a b + right a b) + 2 * (d * right a b)))
@@ -61,7 +64,7 @@ arm-near h d {a} {b} l k = record {
 
 concrete-near : (x : Design) (u : ℕ) (y : Ratio) → u * y .q ≤ y .p → x .m .l * (y .p + u * y .q) ≤ 1600 * x .h * y .q →
     DifferAtMost (half (x .h) *ᶠ (concreteForce x y -ᶠ concreteForce x (at u))) (concreteMoment x y) (concreteMoment x (at u))
-unfolding _*ᶠ_ _-ᶠ_ _+ᶠ_ _/ᶠ_ whole ratio by concreteForce concreteMoment
+unfolding _*ᶠ_ _-ᶠ_ _+ᶠ_ _/ᶠ_ whole ratio at concreteForce concreteMoment
 concrete-near x u y l k = record {
   most = record {
     le = sides (K * (C * (800 * x .h * (p * q + u * q * q) + x .m .l * (u * q * (u * q))))) (K * (C * (800 * x .h * (p * q + u * q * q) + x .m .l * (p * p))))
@@ -105,7 +108,7 @@ module _ (x : Design) {u : Ratio} (pu : Positive u) where
   unfolding unroundedMoment
   moment-proper ls = +ᶠ-proper concrete-moment-proper (steel-moment-proper ls)
 
-module _ (x : Design) (u : ℕ) {y : Ratio} (pu : Positive (at u)) (py : Positive y) (h : at u ≤ʳ y) where
+module _ (x : Design) (u : ℕ) {y : Ratio} (pu : Positive (at u)) (py : Positive y) (h : ratio (at u) ≤ᶠ ratio y) where
   layer-near : (l : Layer) → l .depth ≤ x .h →
       DifferAtMost (share (x .h) 1 (layerForce x l (at u)) (layerForce x l y)) (layerMoment x l y) (integer (floor (layerMoment x l (at u))))
   layer-near l k =
@@ -118,20 +121,23 @@ module _ (x : Design) (u : ℕ) {y : Ratio} (pu : Positive (at u)) (py : Positiv
   steel-near : (ls : List Layer) → DepthsWithin (x .h) ls →
       DifferAtMost (share (x .h) (length ls) (steelForce x ls (at u)) (steelForce x ls y)) (steelMoment x ls y) (integer (steelResistance x ls u))
   unfolding DepthsWithin steelForce steelMoment steelResistance
-  steel-near [] ok = unfold _*ᶠ_ _-ᶠ_ _+ᶠ_ _/ᶠ_ whole by integer in omega arith
+  steel-near [] ok = unfold _*ᶠ_ _-ᶠ_ _+ᶠ_ _/ᶠ_ whole integer in omega arith
   steel-near (l ∷ ls) ok = rw (← one-add (length ls))
       (join (x .h) 1 (length ls) _ _ (layer-proper x pu l) (layer-proper x py l) (steel-proper x pu ls) (steel-proper x py ls)
       (layer-moment-proper x py l) (steel-moment-proper x py ls) (layer-near l (ok .0)) (steel-near ls (ok .1)))
 
-pub moment-near : (x : Design) (ls : List Layer) (u : ℕ) {y : Ratio} → DepthsWithin (x .h) ls → x .m .l ≤ 64 → 1 ≤ u → Positive y → at u ≤ʳ y → y ≤ʳ at (10 * x .h) →
-    DifferAtMost (share (x .h) (1 + length ls) (internalForce x ls (at u)) (internalForce x ls y)) (unroundedMoment x ls y) (integer (momentResistance x ls u))
+pub moment-near : (x : Design) (ls : List Layer) (u : ℕ) {y : Ratio} → DepthsWithin (x .h) ls → x .m .l ≤ 64 → 1 ≤ u → Positive y
+    → whole u ≤ᶠ ratio y → ratio y ≤ᶠ whole (10 * x .h)
+    → DifferAtMost (share (x .h) (1 + length ls) (internalForce x ls (at u)) (internalForce x ls y)) (unroundedMoment x ls y)
+    (integer (momentResistance x ls u))
 unfolding internalForce unroundedMoment momentResistance
 moment-near x ls u {y} ok l low py h high =
-    let pu = by-positive u low in
+    let pu = at-positive u low in
     let cu = concrete-proper x pu in
     let cy = concrete-proper x py in
     let mu = concrete-moment-proper x pu in
     join (x .h) 1 (length ls) _ _ cu cy (steel-proper x pu ls) (steel-proper x py ls) (concrete-moment-proper x py) (steel-moment-proper x py ls)
     (differ-trans {b = concreteMoment x (at u)} (search proper) (search proper) (concrete-moment-proper x py) mu (search proper)
-    (concrete-near x u y (unfold by in omega arith) (unfold by in omega (arith, mul-le-mul-right (y .p + u * y .q) l))) (floor-near (concreteMoment x (at u)) mu))
-    (steel-near x u pu py h ls ok)
+    (concrete-near x u y (unfold whole ratio in omega arith) (unfold whole ratio in omega (arith, mul-le-mul-right (y .p + u * y .q) l)))
+    (floor-near (concreteMoment x (at u)) mu))
+    (steel-near x u pu py (rw (at-whole u) h) ls ok)

@@ -1,28 +1,39 @@
 -- The internal force rises with the depth, strictly, over all fractions above 0. Assumes nothing.
 use Prim.Native.Nat.{ℕ, _*_, _≤_}
 use mathlib.Core.List.{List, [], _∷_}
+use mathlib.Core.Path.{_≡_, refl}
 use native.Mathlib.Nat.{mul-le-mul-left}
 use native.Mathlib.Omega.{arith}
-use Rattle.arith.specs.Fraction.{Fraction, Proper, Ratio, by, whole, ratio, _-ᶠ_, _*ᶠ_, _/ᶠ_, _≤ᶠ_, _<ᶠ_, _≤ʳ_, _<ʳ_}
-use Rattle.arith.proofs.Fraction.{tidy, Positive, proper, +ᶠ-proper, ≤ᶠ-refl, <ʳ→≤ʳ, ratio-mono, ratio-strict, +ᶠ-mono, +ᶠ-strict, whole-mono, whole-strict, /ᶠ-mono, /ᶠ-strict, held-proper, held-mono}
+use Rattle.arith.specs.Fraction.{Fraction, Proper, Ratio, whole, ratio, _-ᶠ_, _*ᶠ_, _/ᶠ_, _÷ᶠ_, _≤ᶠ_, _<ᶠ_}
+use Rattle.arith.proofs.Fraction.{tidy, Positive, proper, +ᶠ-proper, ≤ᶠ-refl, <ᶠ→≤ᶠ, +ᶠ-mono, +ᶠ-strict, whole-mono, whole-strict}
+use Rattle.arith.proofs.Fraction.{/ᶠ-mono, /ᶠ-strict, held-proper, held-mono}
 use Rattle.equilibrium.specs.declared.Layer.{Layer}
 use Rattle.equilibrium.specs.declared.Design.{Design}
-use Rattle.equilibrium.specs.Force.{concreteForce, stress, layerForce, steelForce, internalForce}
+use Rattle.equilibrium.specs.Force.{at, concreteForce, stress, layerForce, steelForce, internalForce}
+
+-- a whole depth: above 0 from 1 on, and as a fraction the whole number
+pub at-positive : (u : ℕ) → 1 ≤ u → Positive (at u)
+unfolding at
+at-positive u h = omega arith
+
+pub at-whole : (u : ℕ) → ratio (at u) ≡ whole u
+unfolding at ratio whole
+at-whole u = refl
 
 -- the stress before it is held
 free : ℕ → ℕ → Ratio → Fraction
-free E d u = whole E *ᶠ (ratio u -ᶠ whole (10 * d)) /ᶠ u
+free E d u = whole E *ᶠ (ratio u -ᶠ whole (10 * d)) ÷ᶠ u
 
 free-proper : (E d : ℕ) {u : Ratio} → Positive u → Proper (free E d u)
 unfolding free
 free-proper E d pu = search proper
 
-free-mono : (E d : ℕ) {u v : Ratio} → u ≤ʳ v → free E d u ≤ᶠ free E d v
-unfolding free _*ᶠ_ _-ᶠ_ _/ᶠ_ whole ratio
-free-mono E d {u} {v} h = record { le = simp tidy (omega (arith, mul-le-mul-left (10 * d * E * u .q * v .q) (h .le))) }
+free-mono : (E d : ℕ) (u v : Ratio) → ratio u ≤ᶠ ratio v → free E d u ≤ᶠ free E d v
+unfolding free _*ᶠ_ _-ᶠ_ _÷ᶠ_ whole ratio
+free-mono E d u v h = record { le = simp tidy (omega (arith, mul-le-mul-left (10 * d * E * u .q * v .q) (h .le))) }
 
-bounds : (s : ℕ) → whole 0 -ᶠ whole s /ᶠ by 100 ≤ᶠ whole s /ᶠ by 100
-unfolding _-ᶠ_ _/ᶠ_ whole by
+bounds : (s : ℕ) → whole 0 -ᶠ whole s /ᶠ 100 ≤ᶠ whole s /ᶠ 100
+unfolding _-ᶠ_ _/ᶠ_ whole
 bounds s = omega arith
 
 module _ (x : Design) {u : Ratio} (pu : Positive u) where
@@ -44,21 +55,22 @@ module _ (x : Design) {u : Ratio} (pu : Positive u) where
   force-proper ls = +ᶠ-proper concrete-proper (steel-proper ls)
 
 module _ (x : Design) {u v : Ratio} (pu : Positive u) (pv : Positive v) where
-  pub layer-mono : (l : Layer) → u ≤ʳ v → layerForce x l u ≤ᶠ layerForce x l v
+  pub layer-mono : (l : Layer) → ratio u ≤ᶠ ratio v → layerForce x l u ≤ᶠ layerForce x l v
   unfolding layerForce stress free
   layer-mono l h =
-      whole-mono _ (held-mono (free-proper (x .m .e) (l .depth) pu) (free-proper (x .m .e) (l .depth) pv) (bounds (x .m .s)) (free-mono (x .m .e) (l .depth) h))
+      whole-mono _ (
+      held-mono (free-proper (x .m .e) (l .depth) pu) (free-proper (x .m .e) (l .depth) pv) (bounds (x .m .s)) (free-mono (x .m .e) (l .depth) u v h))
 
-  pub steel-mono : (ls : List Layer) → u ≤ʳ v → steelForce x ls u ≤ᶠ steelForce x ls v
+  pub steel-mono : (ls : List Layer) → ratio u ≤ᶠ ratio v → steelForce x ls u ≤ᶠ steelForce x ls v
   unfolding steelForce
   steel-mono [] h = ≤ᶠ-refl _
   steel-mono (l ∷ ls) h = +ᶠ-mono (layer-mono l h) (steel-mono ls h)
 
-  pub force-mono : (ls : List Layer) → u ≤ʳ v → internalForce x ls u ≤ᶠ internalForce x ls v
+  pub force-mono : (ls : List Layer) → ratio u ≤ᶠ ratio v → internalForce x ls u ≤ᶠ internalForce x ls v
   unfolding internalForce concreteForce
-  force-mono ls h = +ᶠ-mono (/ᶠ-mono 80000 (whole-mono _ (ratio-mono h))) (steel-mono ls h)
+  force-mono ls h = +ᶠ-mono (/ᶠ-mono 80000 (whole-mono _ h)) (steel-mono ls h)
 
-  pub force-strict : (ls : List Layer) → 1 ≤ x .m .f * x .m .l * x .b → u <ʳ v → internalForce x ls u <ᶠ internalForce x ls v
+  pub force-strict : (ls : List Layer) → 1 ≤ x .m .f * x .m .l * x .b → ratio u <ᶠ ratio v → internalForce x ls u <ᶠ internalForce x ls v
   unfolding internalForce concreteForce
   force-strict ls c h =
-      +ᶠ-strict (steel-proper x pu ls) (steel-proper x pv ls) (/ᶠ-strict (omega arith) (whole-strict c (ratio-strict h))) (steel-mono ls (<ʳ→≤ʳ h))
+      +ᶠ-strict (steel-proper x pu ls) (steel-proper x pv ls) (/ᶠ-strict (omega arith) (whole-strict c h)) (steel-mono ls (<ᶠ→≤ᶠ h))

@@ -1,29 +1,28 @@
 -- How large the numbers of a section become. Assumes nothing.
-use Prim.Native.Nat.{ℕ, _+_, _-_, _*_, _/_, _≤_}
-use mathlib.Core.Bool.{Bool, true, false, cond}
+use Prim.Native.Nat.{ℕ, _+_, _-_, _*_, _≤_}
+use mathlib.Core.Bool.{true}
 use mathlib.Core.List.{List, [], _∷_}
-use mathlib.Core.Path.{_≡_, refl, ap}
+use mathlib.Core.Path.{_≡_, ap}
 use native.Mathlib.Decide.{decLe}
-use native.Mathlib.Nat.{mul-le-mul, mul-le-mul-left, le-trans, div-le-of-le-mul}
+use native.Mathlib.Nat.{mul-le-mul, mul-le-mul-left, le-trans, div-le-of-le-mul, min-le-right}
 use native.Mathlib.Omega.{arith}
 use lib.Dec.{lit≤}
-use lib.IntN.{ℤ, pos, negsuc, natAbs, _-ℤ_}
+use lib.IntN.{ℤ, pos}
 use lib.ListN.{length}
-use lib.Signed.{leZ, _<ℤ_}
 use Rattle.arith.specs.Fraction.{floor}
 use Rattle.arith.specs.Integer.{Within}
 use Rattle.arith.proofs.Fraction.{exchange}
-use Rattle.arith.proofs.Ring.{#, _⊝_, lt?}
-use Rattle.arith.proofs.Bound.{lit, mul-in, sub-in, add-in, up-to, abs-is}
+use Rattle.arith.proofs.Bound.{lit, mul-in, sub-in, add-in, up-to}
 use Rattle.arith.proofs.Floor.{floor-in}
-use Rattle.arith.proofs.Test.{le-false, both-true}
+use Rattle.arith.proofs.Test.{both-true}
 use Rattle.equilibrium.specs.declared.Layer.{Layer}
 use Rattle.equilibrium.specs.declared.Design.{Design}
 use Rattle.equilibrium.specs.Section.{all, depthOk, areaOk}
 use Rattle.equilibrium.specs.Force.{at, concreteMoment, layerMoment, steelResistance, momentResistance}
-use Rattle.equilibrium.specs.Usable.{Bounded, LayerOk, Usable}
-use Rattle.equilibrium.specs.Whole.{DepthOk, heldAt, startOf, shareOf, stressAt}
-use Rattle.equilibrium.proofs.Usable.{layer-ok}
+use Rattle.equilibrium.specs.Code.Usable.{Bounded, LayerOk, Usable}
+use Rattle.equilibrium.specs.Code.Columns.{areaSum}
+use Rattle.equilibrium.specs.Code.Whole.{DepthOk, liftAt, stressAt, liftSum, restAt, excess, blockMoment, BlockBounds, LiftBounds, Trial}
+use Rattle.equilibrium.proofs.OneLayer.{steel-high, layer-ok}
 use Rattle.equilibrium.proofs.Whole.{layer-floor, concrete-floor}
 
 -- a depth is at most 20,000 tenths
@@ -41,39 +40,91 @@ product-most k r B e = go (decLe k B)
     go (yes h) = omega (arith, double, exchange {a = k} {b = B} {c = B} {d = r} h (omega arith))
     go (no n) = omega (arith, double, exchange {a = r} {b = B} {c = B} {d = k} (omega arith) (omega arith))
 
--- what lies between −limit and limit is no larger than limit
-between-in : (limit z : ℤ) → (pos 0 -ℤ limit) <ℤ z → z <ℤ limit → natAbs z ≤ natAbs limit
-between-in limit (pos k) h g = omega (arith, lt? (# (pos k)) (# limit) g, abs-is limit)
-between-in limit (negsuc k) h g = omega (arith, lt? (# (pos 0) ⊝ # limit) (# (negsuc k)) h, abs-is limit)
+-- ---- the lift
 
--- so what is held is no larger than what holds it
-pub held-in : {limit : ℤ} {B : ℕ} (z : ℤ) → Within limit B → Within (heldAt limit z) B
-unfolding heldAt
-held-in {limit} {B} z h = go (leZ z (pos 0 -ℤ limit)) (leZ limit z) refl refl
-  where
-    go : (s t : Bool) → leZ z (pos 0 -ℤ limit) ≡ s → leZ limit z ≡ t → Within (cond s (pos 0 -ℤ limit) (cond t limit z)) B
-    go true t e f = up-to (sub-in (lit (pos 0)) h) (omega arith)
-    go false true e f = h
-    go false false e f = record { within = le-trans (between-in limit z (le-false _ _ e) (le-false _ _ f)) (h .within) }
+pub record LiftSizes (x : Design) (u d : ℕ) : Type 0 where
+  pub climb : (100 * x .m .e + x .m .s) * u ≤ 130000 * 20000
+  pub most : 2 * x .m .s * u ≤ 120000 * 20000
+  pub start : 1000 * x .m .e * d ≤ 700000 * 2000
 
--- ---- what a trial reads of a layer
+pub lift-sizes : {x : Design} {u d : ℕ} → LiftBounds x u d → LiftSizes x u d
+lift-sizes {x} {u} {d} w =
+    let m = w .bounded .materials in
+    record {
+      climb = mul-le-mul (let h : 100 * x .m .e + x .m .s ≤ 130000 = omega (arith, m .E-high, m .s-high) in h) (w .u-high);
+      most = mul-le-mul (mul-le-mul-left 2 (m .s-high)) (w .u-high);
+      start = mul-le-mul (mul-le-mul-left 1000 (m .E-high)) (w .d-high);
+    }
 
-pub start-in : {x : Design} {l : Layer} → Bounded x → LayerOk (x .h) l → startOf x l ≤ 1400000000
-start-in {l} b ok =
-    let d : l .depth ≤ 2000 = omega (arith, ok .depth-high, b .h-high) in
-    mul-le-mul (mul-le-mul-left 1000 (b .materials .E-high)) d
+pub lift-high : {x : Design} {u d : ℕ} → LiftBounds x u d → liftAt x u d ≤ 2400000000
+lift-high {x} {u} {d} w = le-trans (min-le-right ((100 * x .m .e + x .m .s) * u - 1000 * x .m .e * d) (2 * x .m .s * u)) (lift-sizes w .most)
 
-pub share-in : {h : ℕ} {l : Layer} → LayerOk h l → shareOf l ≤ 16000000
-share-in ok = mul-le-mul-left 800 (ok .area-high)
+pub bounds-at : {x : Design} {u : ℕ} {l : Layer} → Bounded x → u ≤ 20000 → LayerOk (x .h) l → LiftBounds x u (l .depth)
+bounds-at b h ok = record { bounded = b; u-high = h; d-high = omega (arith, ok .depth-high, b .h-high) }
+
+module _ {x : Design} {u : ℕ} (b : Bounded x) (h : u ≤ 20000) where
+  lift-sum-by : (ls : List Layer) → all (depthOk (x .h)) ls ≡ true → all areaOk ls ≡ true → liftSum x ls u ≤ 20000 * 2400000000 * length ls
+  unfolding liftSum
+  lift-sum-by [] d a = omega arith
+  lift-sum-by (l ∷ ls) d a =
+      let depths = both-true (depthOk (x .h) l) (all (depthOk (x .h)) ls) d in
+      let areas = both-true (areaOk l) (all areaOk ls) a in
+      let ok = layer-ok (x .h) l (depths .0) (areas .0) in
+      omega (arith, mul-le-mul (ok .area-high) (lift-high (bounds-at b h ok)), lift-sum-by ls (depths .1) (areas .1))
+
+-- the lift of all layers
+pub lift-sum-high : {x : Design} {n : ℕ} {ls : List Layer} {u : ℕ} → Usable x n ls → u ≤ 20000 → liftSum x ls u ≤ 768000000000000
+lift-sum-high {ls = ls} w h = omega (arith, lift-sum-by (w .bounded) h ls (w .depths) (w .areas), w .counted, w .count-high)
+
+-- the area of all layers
+area-by : (ls : List Layer) → all areaOk ls ≡ true → areaSum ls ≤ 20000 * length ls
+unfolding areaSum
+area-by [] a = omega arith
+area-by (l ∷ ls) a =
+    let areas = both-true (areaOk l) (all areaOk ls) a in
+    omega (arith, steel-high l (areas .0), area-by ls (areas .1))
+
+pub area-high : {x : Design} {n : ℕ} {ls : List Layer} → Usable x n ls → areaSum ls ≤ 320000
+area-high {ls = ls} w = omega (arith, area-by ls (w .areas), w .counted, w .count-high)
+
+-- the concrete, for each tenth of its depth
+pub concrete-high : {x : Design} → Bounded x → x .m .f * x .m .l * x .b ≤ 768000000
+concrete-high b = mul-le-mul (mul-le-mul (b .materials .f-high) (b .materials .L-high)) (b .b-high)
+
+pub concrete-low : {x : Design} → Bounded x → 1 ≤ x .m .f * x .m .l * x .b
+concrete-low b = le-trans (lit≤ {m = 1} {n = 1 * 56 * 50} tt) (mul-le-mul (mul-le-mul (b .materials .f-low) (b .materials .L-low)) (b .b-low))
+
+-- 80,000·N and what the steel carries in tension
+pub steel-rest : {x : Design} {steel : ℕ} → Bounded x → steel ≤ 320000 → 800 * x .m .s * steel ≤ 15360000000000
+steel-rest b h = mul-le-mul (mul-le-mul-left 800 (b .materials .s-high)) h
+
+pub rest-in : {x : Design} {steel : ℕ} {N : ℤ} → Bounded x → steel ≤ 320000 → Within N 500000000 → Within (restAt x steel N) 55360000000000
+rest-in {x} {steel} b h n =
+    let tension : Within (pos (800 * x .m .s * steel)) 15360000000000 = record { within = steel-rest b h } in
+    add-in (mul-in (lit (pos 80000)) n) tension
+
+-- 80,000·u times what the force exceeds N by
+pub excess-in : {x : Design} {n : ℕ} {ls : List Layer} {steel : ℕ} {N : ℤ} {u : ℕ} → Trial x n ls steel N → u ≤ 20000
+    → Within (excess x ls N u) 2028800000000000000
+unfolding excess
+excess-in {x} {ls = ls} {u = u} t h =
+    let w = t .usable in
+    let concrete : Within (pos (x .m .f * x .m .l * x .b * u)) 15360000000000 = record { within = mul-le-mul (concrete-high (w .bounded)) h } in
+    let depth : Within (pos u) 20000 = record { within = h } in
+    let lift : Within (pos (800 * liftSum x ls u)) 614400000000000000 = record { within = mul-le-mul-left 800 (lift-sum-high w h) } in
+    add-in (mul-in (sub-in concrete (rest-in (w .bounded) (area-high w) (t .load))) depth) lift
 
 -- ---- the moment of a layer, by the bounds of its factors
 
 abbrev pub layer-bound : ℕ
-layer-bound = 144000000000000000
+layer-bound = 432000000000000000
 
 module _ {x : Design} {u : ℕ} {l : Layer} (b : Bounded x) (ok : DepthOk x u) (lo : LayerOk (x .h) l) where
-  pub stress-in : Within (stressAt x l u) 1200000000
-  stress-in = held-in _ (record { within = mul-le-mul (b .materials .s-high) (depth-most b ok) })
+  pub stress-in : Within (stressAt x l u) 3600000000
+  stress-in =
+      let lift : Within (pos (liftAt x u (l .depth))) 2400000000 = record { within = lift-high (bounds-at b (depth-most b ok) lo) } in
+      let least : Within (pos (x .m .s * u)) 1200000000 = record { within = mul-le-mul (b .materials .s-high) (depth-most b ok) } in
+      sub-in lift least
 
   pub layer-moment-in : Within (floor (layerMoment x l (at u))) layer-bound
   layer-moment-in =
@@ -93,29 +144,31 @@ module _ {x : Design} {u : ℕ} (b : Bounded x) (ok : DepthOk x u) where
       let areas = both-true (areaOk l) (all areaOk ls) a in
       up-to (add-in (layer-moment-in b ok (layer-ok (x .h) l (depths .0) (areas .0))) (steel-in ls (depths .1) (areas .1))) (omega arith)
 
--- the factors of the concrete moment: L·u and what it leaves of 800h are together 800h, so their product is at most (400h)²
-pub record ConcreteSizes (x : Design) (u : ℕ) : Type 0 where
-  pub high : x .m .l * u ≤ 800 * x .h
-  pub rest : 800 * x .h ≡ x .m .l * u + (800 * x .h - x .m .l * u)
-  pub product : x .m .l * u * (800 * x .h - x .m .l * u) ≤ 800000 * 800000
-  pub strength : x .m .f * x .b ≤ 6000 * 2000
-  pub above : x .m .f * x .b * (x .m .l * u * (800 * x .h - x .m .l * u)) ≤ 6000 * 2000 * (800000 * 800000)
-  pub quotient : x .m .f * x .b * (x .m .l * u * (800 * x .h - x .m .l * u)) / 128000000 ≤ 60000000000
+-- the factors of the concrete moment: k and what it leaves of 800h are together 800h, so their product is at most (400h)²
+pub record BlockSizes (f b h k : ℕ) : Type 0 where
+  pub product : k * (800 * h - k) ≤ 800000 * 800000
+  pub strength : f * b ≤ 6000 * 2000
+  pub above : f * b * (k * (800 * h - k)) ≤ 6000 * 2000 * (800000 * 800000)
+  pub quotient : blockMoment f b h k ≤ 60000000000
 
-pub concrete-sizes : (x : Design) (u : ℕ) → Bounded x → DepthOk x u → ConcreteSizes x u
-concrete-sizes x u b ok =
-    let k-high : x .m .l * u ≤ 64 * (10 * x .h) = mul-le-mul (b .materials .L-high) (ok .high) in
-    let rest : 800 * x .h ≡ x .m .l * u + (800 * x .h - x .m .l * u) = omega arith in
-    let half : 400 * x .h ≤ 800000 = omega (arith, b .h-high) in
-    let product = le-trans (product-most (x .m .l * u) (800 * x .h - x .m .l * u) (400 * x .h) (omega arith)) (mul-le-mul half half) in
-    let strength = mul-le-mul (b .materials .f-high) (b .b-high) in
+pub block-sizes : {f b h k : ℕ} → BlockBounds f b h k → BlockSizes f b h k
+block-sizes {f} {b} {h} {k} w =
+    let half : 400 * h ≤ 800000 = omega (arith, w .h-high) in
+    let product = le-trans (product-most k (800 * h - k) (400 * h) (omega (arith, w .k-high))) (mul-le-mul half half) in
+    let strength = mul-le-mul (w .f-high) (w .b-high) in
     let above = mul-le-mul strength product in
-    record { high = omega arith; rest = rest; product = product; strength = strength; above = above; quotient = div-le-of-le-mul 128000000 (le-trans above (lit≤ tt)) }
+    record { product = product; strength = strength; above = above; quotient = div-le-of-le-mul 128000000 (le-trans above (lit≤ tt)) }
 
--- "the moment's bound": |MRd| is below 2.4·10¹⁸
-pub resistance-in : {x : Design} {count : ℕ} {ls : List Layer} {u : ℕ} → Usable x count ls → DepthOk x u → Within (momentResistance x ls u) 2400000000000000000
+-- at a depth of the range k is L·u
+pub block-bounds : {x : Design} {u : ℕ} → Bounded x → DepthOk x u → BlockBounds (x .m .f) (x .b) (x .h) (x .m .l * u)
+block-bounds b ok =
+    record { f-high = b .materials .f-high; b-high = b .b-high; h-high = b .h-high; k-high = omega (arith, mul-le-mul (b .materials .L-high) (ok .high)) }
+
+-- "the moment's bound"
+pub resistance-in : {x : Design} {count : ℕ} {ls : List Layer} {u : ℕ} → Usable x count ls → DepthOk x u → Within (momentResistance x ls u) 7000000000000000000
 unfolding momentResistance
-resistance-in {x} {ls} {u} w ok =
-    let concrete : Within (floor (concreteMoment x (at u))) 60000000000 =
-    let z = concrete-sizes x u (w .bounded) ok in rw (concrete-floor x u (800 * x .h - x .m .l * u) (ok .low) (z .rest)) (record { within = z .quotient }) in
+resistance-in {x} {ls = ls} {u} w ok =
+    let k = block-bounds (w .bounded) ok in
+    let concrete : Within (floor (concreteMoment x (at u))) 60000000000 = rw (concrete-floor x u (ok .low) (k .k-high))
+    (record { within = block-sizes k .quotient }) in
     up-to (add-in concrete (steel-in (w .bounded) ok ls (w .depths) (w .areas))) (omega (arith, w .counted, w .count-high))

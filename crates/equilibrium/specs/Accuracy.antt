@@ -1,11 +1,10 @@
 -- The accuracy statement, demand 3 of document 01. Assumes nothing.
 use Prim.Native.Nat.{ℕ, _+_, _*_, _≤_}
 use mathlib.Core.List.{List}
-use mathlib.Core.Logic.{_⊎_}
-use mathlib.Core.Path.{_≡_}
 use lib.IntN.{ℤ}
 use lib.ListN.{length}
-use Rattle.arith.specs.Fraction.{Fraction, Proper, Ratio, by, whole, integer, _+ᶠ_, _-ᶠ_, _*ᶠ_, _/ᶠ_, _≤ᶠ_, _<ᶠ_, _≤ʳ_, _<ʳ_, DifferAtMost}
+use Rattle.arith.specs.Chain.{OneOf}
+use Rattle.arith.specs.Fraction.{Fraction, Proper, Ratio, whole, integer, ratio, _+ᶠ_, _-ᶠ_, _*ᶠ_, _/ᶠ_, _≤ᶠ_, _<ᶠ_, DifferAtMost}
 use Rattle.equilibrium.specs.declared.Layer.{Layer}
 use Rattle.equilibrium.specs.declared.Section.{Section}
 use Rattle.equilibrium.specs.declared.Design.{Design}
@@ -13,16 +12,17 @@ use Rattle.equilibrium.specs.declared.Accepted.{Accepted}
 use Rattle.equilibrium.specs.declared.Accepted.the-variants as section
 use Rattle.equilibrium.specs.declared.Depth.{Depth}
 use Rattle.equilibrium.specs.declared.Depth.the-variants.{At, Refused}
-use Rattle.equilibrium.specs.Section.{counted, accepted}
+use Rattle.equilibrium.specs.Section.{counted}
+use Rattle.equilibrium.specs.Refusals.{accepted, faceRefusals}
 use Rattle.equilibrium.specs.Force.{at, internalForce, unroundedMoment, momentResistance}
-use Rattle.equilibrium.specs.Whole.{DepthOk}
+use Rattle.equilibrium.specs.Code.Whole.{DepthOk}
 use Rattle.equilibrium.specs.Moment.{momentAt, momentFound}
 
 -- 01's "range": every p/q tenths, q above 0, from 1 to 10h with both ends
 pub record Range (h : ℕ) (y : Ratio) : Type 0 where
   pub q-low : 1 ≤ y .q
-  pub low : at 1 ≤ʳ y
-  pub high : y ≤ʳ at (10 * h)
+  pub low : whole 1 ≤ᶠ ratio y
+  pub high : ratio y ≤ᶠ whole (10 * h)
 
 module _ (x : Design) (ls : List Layer) (u : ℕ) where
   -- 01's "growth": the internal force at the depth compared less that at u
@@ -31,20 +31,21 @@ module _ (x : Design) (ls : List Layer) (u : ℕ) where
 
   -- the allowance: h/2 times the growth, plus 1 N·mm, plus 1 N·mm for each counted layer
   unfoldable pub allowance : Ratio → Fraction
-  allowance y = whole (x .h) /ᶠ by 2 *ᶠ growth y +ᶠ whole (1 + length ls)
+  allowance y = whole (x .h) /ᶠ 2 *ᶠ growth y +ᶠ whole (1 + length ls)
 
 -- of a section under N, with the depth u and the moment that is reported
 pub record Accurate (x : Design) (ls : List Layer) (N : ℤ) (u : ℕ) (reported : ℤ) : Type 0 where
   -- the fractions compared have a denominator above 0
   pub defined : (y : Ratio) → Range (x .h) y → Proper (internalForce x ls y) × (Proper (unroundedMoment x ls y) × Proper (allowance x ls u y))
   -- the internal force is below N where the depth is less than u,
-  pub below : (y : Ratio) → Range (x .h) y → y <ʳ at u → internalForce x ls y <ᶠ integer N
+  pub below : (y : Ratio) → Range (x .h) y → ratio y <ᶠ whole u → internalForce x ls y <ᶠ integer N
   -- at most N at u,
   pub here : internalForce x ls (at u) ≤ᶠ integer N
   -- above N from u + 1 on;
-  pub above : (y : Ratio) → Range (x .h) y → at (u + 1) ≤ʳ y → integer N <ᶠ internalForce x ls y
+  pub above : (y : Ratio) → Range (x .h) y → whole (u + 1) ≤ᶠ ratio y → integer N <ᶠ internalForce x ls y
   -- and from u to u + 1 the unrounded moment differs from the reported one by no more than the allowance
-  pub near : (y : Ratio) → Range (x .h) y → at u ≤ʳ y → y ≤ʳ at (u + 1) → DifferAtMost (allowance x ls u y) (unroundedMoment x ls y) (integer reported)
+  pub near : (y : Ratio) → Range (x .h) y → whole u ≤ᶠ ratio y → ratio y ≤ᶠ whole (u + 1)
+      → DifferAtMost (allowance x ls u y) (unroundedMoment x ls y) (integer reported)
 
 -- The promise of the depth for a face, by cases: a depth of the range, accurate with the moment resistance there; or 11 or 12.
 -- All that a part above uses of it.
@@ -54,14 +55,14 @@ pub record DepthPromise (x : Design) (ls : List Layer) (N : ℤ) (u : ℕ) : Typ
 
 abbrev pub PromisedDepth : Design → List Layer → ℤ → Depth → Type 0
 PromisedDepth x ls N (At u) = DepthPromise x ls N u
-PromisedDepth x ls N (Refused k) = (k ≡ 11) ⊎ (k ≡ 12)
+PromisedDepth x ls N (Refused k) = OneOf faceRefusals k
 
 -- Of Find a depth: a depth that is answered is accurate, with the moment that Moment at a depth answers for the same section
 -- and u; and only an accepted section has one.
-abbrev pub AccurateAfter : Section → ℤ → Accepted → Depth → Type 0
-AccurateAfter s N (section.Ready x) (At u) = Accurate x (counted s .layers) N u (momentFound (momentAt s u))
-AccurateAfter s N (section.Refused k) (At u) = ⊥
-AccurateAfter s N a (Refused k) = Unit {0}
+abbrev pub AccurateFound : Section → ℤ → Accepted → Depth → Type 0
+AccurateFound s N (section.Ready x) (At u) = Accurate x (counted s .layers) N u (momentFound (momentAt s u))
+AccurateFound s N (section.Refused k) (At u) = ⊥
+AccurateFound s N a (Refused k) = Unit {0}
 
 abbrev pub AccurateDepth : Section → ℤ → Depth → Type 0
-AccurateDepth s N r = AccurateAfter s N (accepted (counted s)) r
+AccurateDepth s N r = AccurateFound s N (accepted (counted s)) r

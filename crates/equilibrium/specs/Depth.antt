@@ -1,10 +1,8 @@
--- Find a depth: document 01, "Equilibrium" and "When a call is turned down". Assumes nothing.
+-- Find a depth: document 01, "Equilibrium". Assumes nothing.
 use Prim.Native.Nat.{ℕ, _*_}
-use mathlib.Core.Bool.{Bool}
 use mathlib.Core.List.{List}
 use lib.IntN.{ℤ}
-use Rattle.arith.specs.Chain.{unless}
-use Rattle.arith.specs.Fraction.{integer, atMost}
+use Rattle.arith.specs.Chain.{firstFailing}
 use Rattle.arith.specs.Greatest.{greatest}
 use Rattle.equilibrium.specs.declared.Layer.{Layer}
 use Rattle.equilibrium.specs.declared.Section.{Section}
@@ -13,9 +11,8 @@ use Rattle.equilibrium.specs.declared.Accepted.{Accepted}
 use Rattle.equilibrium.specs.declared.Accepted.the-variants as section
 use Rattle.equilibrium.specs.declared.Depth.{Depth}
 use Rattle.equilibrium.specs.declared.Depth.the-variants.{At, Refused}
-use Rattle.equilibrium.specs.Section.{Counted, counted, accepted}
-use Rattle.equilibrium.specs.Load.{forceOk}
-use Rattle.equilibrium.specs.Force.{at, internalForce}
+use Rattle.equilibrium.specs.Section.{Counted, counted}
+use Rattle.equilibrium.specs.Refusals.{accepted, carries, faceTests, answer, findDepthTests}
 
 -- the paper's numbers for each case of the answer: the refusal, 0 for none, and u, 0 where refused
 abbrev pub refusalNumber : Depth → ℕ
@@ -26,30 +23,20 @@ abbrev pub depthFound : Depth → ℕ
 depthFound (At u) = u
 depthFound (Refused k) = 0
 
-module _ (x : Design) (ls : List Layer) (N : ℤ) where
-  -- the internal force at u is at most N
-  unfoldable pub carries : ℕ → Bool
-  carries u = atMost (internalForce x ls (at u)) (integer N)
+-- the depth of a face under N: the greatest u of the range, 1 to 10h, at which the internal force is at most N
+abbrev pub depthUnder : List Layer → ℤ → Design → ℕ
+depthUnder ls N x = greatest (carries x ls N) (10 * x .h)
 
-  -- N is at most the internal force at 10h
-  unfoldable pub reaches : Bool
-  reaches = atMost (integer N) (internalForce x ls (at (10 * x .h)))
+abbrev pub depthAnswer : List Layer → ℤ → ℕ → Accepted → Depth
+depthAnswer ls N = answer Refused (λ x. At (depthUnder ls N x))
 
-  -- 11: N is below the internal force at depth 1; 12: N is above the internal force at depth 10h.
-  -- Else the greatest u from 1 to 10h at which the internal force is at most N.
-  unfoldable pub depthFor : Depth
-  depthFor =
-      unless (carries 1) (Refused 11)
-      (unless reaches (Refused 12)
-      (At (greatest carries (10 * x .h))))
+-- of an accepted section and an N in its range: 11, 12 or the depth
+unfoldable pub depthFor : Design → List Layer → ℤ → Depth
+depthFor x ls N = depthAnswer ls N (firstFailing (faceTests x ls N)) (section.Ready x)
 
--- 1 to 7, then 8: N out of range. The compressed face is the top.
-abbrev pub depthAfter : List Layer → ℤ → Accepted → Depth
-depthAfter ls N (section.Refused k) = Refused k
-depthAfter ls N (section.Ready x) = unless (forceOk N) (Refused 8) (depthFor x ls N)
-
+-- Find a depth
 unfoldable pub depthIn : Counted → ℤ → Depth
-depthIn c N = depthAfter (c .layers) N (accepted c)
+depthIn c N = depthAnswer (c .layers) N (firstFailing (findDepthTests c N)) (accepted c)
 
 abbrev pub findDepth : Section → ℤ → Depth
 findDepth s N = depthIn (counted s) N

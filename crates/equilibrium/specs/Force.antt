@@ -2,13 +2,14 @@
 use Prim.Native.Nat.{ℕ, _*_}
 use mathlib.Core.List.{List, [], _∷_}
 use lib.IntN.{ℤ, pos, _+ℤ_}
-use Rattle.arith.specs.Fraction.{Fraction, Ratio, by, whole, ratio, _+ᶠ_, _-ᶠ_, _*ᶠ_, _/ᶠ_, held, floor}
+use Rattle.arith.specs.Fraction.{Fraction, Ratio, whole, ratio, _+ᶠ_, _-ᶠ_, _*ᶠ_, _/ᶠ_, _÷ᶠ_, held, floor}
 use Rattle.equilibrium.specs.declared.Layer.{Layer}
 use Rattle.equilibrium.specs.declared.Design.{Design}
 
--- a whole depth, in tenths of a millimetre. The same formulas give force and moment at a depth that is a fraction p/q.
-abbrev pub at : ℕ → Ratio
-at u = by u
+-- A whole depth, in tenths of a millimetre: at 1358 is 1358/1. The same formulas give force and moment at a depth that is a
+-- fraction p/q.
+unfoldable pub at : ℕ → Ratio
+at u = record { p = u; q = 1 }
 
 module _ (x : Design) where
   -- the letters of document 01
@@ -32,11 +33,11 @@ module _ (x : Design) where
 
   -- concrete force: f·L·b·u/80,000 newtons (3.1.7)
   unfoldable pub concreteForce : Ratio → Fraction
-  concreteForce u = whole (f * L * b) *ᶠ ratio u /ᶠ by 80000
+  concreteForce u = whole (f * L * b) *ᶠ ratio u /ᶠ 80000
 
   -- stress in a layer: E·(u − 10d)/u (6.1), held between −s/100 and +s/100 (3.2.7); compression is positive
   unfoldable pub stress : Layer → Ratio → Fraction
-  stress l u = held (whole 0 -ᶠ whole s /ᶠ by 100) (whole s /ᶠ by 100) (whole E *ᶠ (ratio u -ᶠ whole (10 * l .depth)) /ᶠ u)
+  stress l u = held (whole 0 -ᶠ whole s /ᶠ 100) (whole s /ᶠ 100) (whole E *ᶠ (ratio u -ᶠ whole (10 * l .depth)) ÷ᶠ u)
 
   -- a layer's force: area times stress
   unfoldable pub layerForce : Layer → Ratio → Fraction
@@ -52,11 +53,11 @@ module _ (x : Design) where
 
   -- concrete moment: f·L·b·u·(800h − L·u)/128,000,000
   unfoldable pub concreteMoment : Ratio → Fraction
-  concreteMoment u = whole (f * L * b) *ᶠ ratio u *ᶠ (whole (800 * h) -ᶠ whole L *ᶠ ratio u) /ᶠ by 128000000
+  concreteMoment u = whole (f * L * b) *ᶠ ratio u *ᶠ (whole (800 * h) -ᶠ whole L *ᶠ ratio u) /ᶠ 128000000
 
   -- a layer's moment: force times (h/2 − d)
   unfoldable pub layerMoment : Layer → Ratio → Fraction
-  layerMoment l u = layerForce l u *ᶠ (whole h /ᶠ by 2 -ᶠ whole (l .depth))
+  layerMoment l u = layerForce l u *ᶠ (whole h /ᶠ 2 -ᶠ whole (l .depth))
 
   unfoldable pub steelMoment : List Layer → Ratio → Fraction
   steelMoment [] u = whole 0

@@ -1,8 +1,8 @@
 pub mod Section
 pub mod Load
-pub mod Usable
 pub mod Force
-pub mod Whole
+pub mod Refusals
+pub mod Code
 pub mod Turned
 pub mod Depth
 pub mod Moment

@@ -1,12 +1,18 @@
 // A section of reinforced concrete in equilibrium: document 01, "What the engine covers" and "Equilibrium".
+pub mod columns;
+pub mod refusals;
 pub mod resistance;
 pub mod search;
-pub mod tests;
-pub mod turning;
 
+use materials::Grade;
 use materials::Materials;
 ghost use mathlib.Core.Path.{_≡_};
+ghost use Rattle.arith.specs.Chain.{firstFailing};
+ghost use Rattle.equilibrium.specs.Section.{counted};
+ghost use Rattle.equilibrium.specs.Refusals.{findDepthTests, momentTests};
+ghost use Rattle.equilibrium.specs.Depth as depth;
 ghost use Rattle.equilibrium.specs.Depth.{findDepth};
+ghost use Rattle.equilibrium.specs.Moment as moment;
 ghost use Rattle.equilibrium.specs.Moment.{momentAt};
 ghost use Rattle.equilibrium.specs.Accuracy.{AccurateDepth};
 
@@ -24,8 +30,7 @@ pub struct Section {
     pub layers: [Layer; 16],
     pub width: i64,
     pub height: i64,
-    pub fck: i64,
-    pub fyk: i64,
+    pub grade: Grade,
     pub count: usize,
 }
 
@@ -64,16 +69,23 @@ pub enum Moment {
 }
 
 // Find a depth, with the top compressed: the greatest u from 1 to 10h tenths of a millimetre at which the internal force is at
-// most N. Refusals: 1 to 7, 8 N out of range, 11 N below the internal force at depth 1, 12 N above that at depth 10h.
+// most N. Refusals: the section tests, 8 N out of range, 11 N below the internal force at depth 1, 12 N above that at depth 10h.
 pub fn find_depth(s: Section, n: i64) -> Depth
     ensures { λ r. ⌜ r ≡ findDepth s n ⌝ }
+    ensures refusal { λ r. ⌜ depth.refusalNumber r ≡ firstFailing (findDepthTests (counted s) n) ⌝ }
     ensures accurate { λ r. ⌜ AccurateDepth s n r ⌝ }
 {
-    match tests::accept(s) {
+    match refusals::accept(s) {
         Accepted::Refused(k) => Depth::Refused(k),
         Accepted::Ready(x) => {
-            if tests::force_ok(n) {
-                search::depth_for(x, s, n)
+            if refusals::force_ok(n) {
+                let layers = s.layers;
+                let count = s.count;
+                let mut depths = [0u32; 16];
+                let mut areas = [0u32; 16];
+                columns::take_apart(layers, &mut depths, &mut areas);
+                let steel = columns::steel_area(count, &areas);
+                search::depth_for(x, count, &depths, &areas, steel, n)
             } else {
                 Depth::Refused(8)
             }
@@ -82,15 +94,21 @@ pub fn find_depth(s: Section, n: i64) -> Depth
 }
 
 // Moment at a depth, with the top compressed: the moment resistance at u tenths of a millimetre.
-// Refusals: 1 to 7, and 13 where u is not in 1 to 10h.
+// Refusals: the section tests, and 13 where u is not in 1 to 10h.
 pub fn moment_at(s: Section, u: u64) -> Moment
     ensures { λ r. ⌜ r ≡ momentAt s u ⌝ }
+    ensures refusal { λ r. ⌜ moment.refusalNumber r ≡ firstFailing (momentTests (counted s) u) ⌝ }
 {
-    match tests::accept(s) {
+    match refusals::accept(s) {
         Accepted::Refused(k) => Moment::Refused(k),
         Accepted::Ready(x) => {
             if arith::both(1 <= u, u <= 10 * x.h) {
-                Moment::Of(resistance::moment_resistance(x, s, u))
+                let layers = s.layers;
+                let count = s.count;
+                let mut depths = [0u32; 16];
+                let mut areas = [0u32; 16];
+                columns::take_apart(layers, &mut depths, &mut areas);
+                Moment::Of(resistance::moment_resistance(x, count, &depths, &areas, u))
             } else {
                 Moment::Refused(13)
             }

@@ -1,76 +1,87 @@
-// The moment resistance MRd at a whole depth: document 01, "Equilibrium".
+// The stress of the layers and the moment resistance MRd at a whole depth: document 01, "Equilibrium".
 use super::Design;
-use super::Layer;
-use super::Section;
+ghost use Prim.Native.Nat.{_*_, _≤_};
 ghost use mathlib.Core.Path.{_≡_};
+ghost use lib.IntN.{pos};
 ghost use Rattle.arith.specs.Fraction.{floor};
-ghost use Rattle.arith.specs.Integer.{Within};
-ghost use Rattle.equilibrium.specs.Section.{layersOf};
-ghost use Rattle.equilibrium.specs.Usable.{Bounded, LayerOk, Usable};
-ghost use Rattle.equilibrium.specs.Force.{at, concreteMoment, layerMoment, steelResistance, momentResistance};
-ghost use Rattle.equilibrium.specs.Whole.{DepthOk, heldAt, stressAt};
+ghost use Rattle.equilibrium.specs.Code.Usable.{Bounded, LayerOk, Usable};
+ghost use Rattle.equilibrium.specs.Force.{at, layerMoment, steelResistance, momentResistance};
+ghost use Rattle.equilibrium.specs.Code.Columns.{layersIn};
+ghost use Rattle.equilibrium.specs.Code.Whole.{DepthOk, lifted, liftAt, blockMoment, BlockBounds, LiftBounds};
 
-// z, held between -limit and limit.
-pub fn held(limit: i64, z: i64) -> i64
-    requires { ⌜ Within limit 1200000000 ⌝ }
-    ensures { λ r. ⌜ r ≡ heldAt limit z ⌝ }
+// climb − start, held between 0 and most.
+fn lift(climb: u64, most: u64, start: u64) -> u64
+    ensures { λ r. ⌜ r ≡ lifted climb most start ⌝ }
 {
-    let least = 0 - limit;
-    if z <= least {
-        return least;
+    if climb <= start {
+        return 0;
     }
-    if limit <= z { limit } else { z }
+    let y = climb - start;
+    if y < most { y } else { most }
 }
 
-// The concrete moment, rounded down. It is f·b·k·(800h − k)/128,000,000 with k = L·u: so ordered, no product is above 64 bits,
-// as k·(800h − k) is at most (400h)².
-fn concrete_moment(x: Design, u: u64) -> i64
-    requires { ⌜ Bounded x × DepthOk x u ⌝ }
-    ensures { λ r. ⌜ r ≡ floor (concreteMoment x (at u)) ⌝ }
+// 100·u times what the stress at a depth lies above −s/100: E·(u − 10d)/u, held within ±s/100, and moved up by s/100.
+fn lift_at(x: Design, u: u64, depth: u32) -> u64
+    requires { ⌜ LiftBounds x u depth ⌝ }
+    ensures { λ r. ⌜ r ≡ liftAt x u depth ⌝ }
 {
-    let k = x.m.l * u;
-    let t = x.m.f * x.b * (k * (800 * x.h - k));
-    (t / 128000000) as i64
+    lift(
+        (100 * x.m.e + x.m.s) * u,
+        2 * x.m.s * u,
+        1000 * x.m.e * depth as u64,
+    )
 }
 
-// 100·u times the stress of a layer.
-fn stress_at(x: Design, l: Layer, u: u64) -> i64
-    requires { ⌜ Bounded x × (DepthOk x u × LayerOk (x .h) l) ⌝ }
-    ensures { λ r. ⌜ r ≡ stressAt x l u ⌝ }
+// A layer's area times its lift.
+pub fn layer_lift(x: Design, u: u64, depth: u32, area: u32) -> u64
+    requires { ⌜ LiftBounds x u depth × (area ≤ 20000) ⌝ }
+    ensures { λ r. ⌜ r ≡ area * liftAt x u depth ⌝ }
 {
-    let e = x.m.e as i64;
-    let v = u as i64;
-    held(x.m.s as i64 * v, 100 * e * v - 1000 * e * l.depth as i64)
+    area as u64 * lift_at(x, u, depth)
+}
+
+// The moment of the concrete, rounded down, for a block of the depth k in 1/800 mm: k is L·u. So ordered, no product is above 64
+// bits, as k·(800h − k) is at most (400h)².
+fn concrete_moment(f: u64, b: u64, h: u64, k: u64) -> i64
+    requires { ⌜ BlockBounds f b h k ⌝ }
+    ensures { λ r. ⌜ r ≡ pos (blockMoment f b h k) ⌝ }
+{
+    (f * b * (k * (800 * h - k)) / 128000000) as i64
 }
 
 // A layer's moment, rounded down by itself: A·(100u·stress)·(h − 2d)/200u.
-fn layer_moment(x: Design, l: Layer, u: u64) -> i64
-    requires { ⌜ Bounded x × (DepthOk x u × LayerOk (x .h) l) ⌝ }
-    ensures { λ r. ⌜ r ≡ floor (layerMoment x l (at u)) ⌝ }
+fn layer_moment(x: Design, depth: u32, area: u32, u: u64) -> i64
+    requires { ⌜ Bounded x × (DepthOk x u × LayerOk (x .h) (record { depth = depth; area = area })) ⌝ }
+    ensures { λ r. ⌜ r ≡ floor (layerMoment x (record { depth = depth; area = area }) (at u)) ⌝ }
 {
-    let arm = x.h as i64 - 2 * l.depth as i64;
-    arith::floor_div(l.area as i64 * stress_at(x, l, u) * arm, 200 * u as i64)
+    let stress = lift_at(x, u, depth) as i64 - (x.m.s * u) as i64;
+    let arm = x.h as i64 - 2 * depth as i64;
+    arith::floor_div(area as i64 * stress * arm, 200 * u as i64)
 }
 
-fn steel_resistance(x: Design, s: Section, u: u64) -> i64
-    requires { ⌜ Usable x (s .count) (layersOf s) × DepthOk x u ⌝ }
-    ensures { λ r. ⌜ r ≡ steelResistance x (layersOf s) u ⌝ }
+fn steel_resistance(x: Design, count: usize, depths: &[u32; 16], areas: &[u32; 16], u: u64) -> i64
+    requires { ⌜ Usable x count (layersIn count (now depths) (now areas)) × DepthOk x u ⌝ }
+    ensures { λ r. ⌜ r ≡ steelResistance x (layersIn count (now (depths .entry)) (now (areas .entry))) u ⌝ }
 {
     let mut sum: i64 = 0;
-    let layers = s.layers;
-    let count = s.count;
     let mut i: usize = 0;
     while i < count {
-        let l = layers[i];
-        sum += layer_moment(x, l, u);
+        sum += layer_moment(x, depths[i], areas[i], u);
         i += 1;
     }
     sum
 }
 
-pub fn moment_resistance(x: Design, s: Section, u: u64) -> i64
-    requires { ⌜ Usable x (s .count) (layersOf s) × DepthOk x u ⌝ }
-    ensures { λ r. ⌜ r ≡ momentResistance x (layersOf s) u ⌝ }
+// MRd of the layers in two columns.
+pub fn moment_resistance(
+    x: Design,
+    count: usize,
+    depths: &[u32; 16],
+    areas: &[u32; 16],
+    u: u64,
+) -> i64
+    requires { ⌜ Usable x count (layersIn count (now depths) (now areas)) × DepthOk x u ⌝ }
+    ensures { λ r. ⌜ r ≡ momentResistance x (layersIn count (now (depths .entry)) (now (areas .entry))) u ⌝ }
 {
-    concrete_moment(x, u) + steel_resistance(x, s, u)
+    concrete_moment(x.m.f, x.b, x.h, x.m.l * u) + steel_resistance(x, count, depths, areas, u)
 }

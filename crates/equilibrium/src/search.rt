@@ -1,115 +1,211 @@
-// The depth of the neutral axis, by halving: document 01, "Equilibrium". A trial compares the internal force with N exactly and
-// without a division. The layers are read from two columns that are filled once, so that a layer costs a trial one product.
+// The depth of the neutral axis, by pairs of trials: document 01, "Equilibrium". A trial compares the internal force with N exactly and
+// without a division.
 use super::Depth;
 use super::Design;
-use super::Section;
-use super::resistance::held;
-ghost use Prim.Native.Nat.{_*_};
+use super::resistance::layer_lift;
+ghost use Prim.Native.Nat.{_+_, _*_, _≤_, _<_};
 ghost use mathlib.Core.Bool.{true};
 ghost use mathlib.Core.Path.{_≡_};
-ghost use lib.ListN.{length};
 ghost use Rattle.arith.specs.Greatest.{greatest};
 ghost use Rattle.arith.specs.Integer.{Within};
-ghost use Rattle.equilibrium.specs.Section.{layersOf};
-ghost use Rattle.equilibrium.specs.Usable.{Bounded, Usable};
-ghost use Rattle.equilibrium.specs.Depth.{carries, reaches, depthFor};
+ghost use Rattle.equilibrium.specs.Code.Usable.{Bounded, Usable};
+ghost use Rattle.equilibrium.specs.Refusals.{carries};
+ghost use Rattle.equilibrium.specs.Depth.{depthFor};
 ghost use Rattle.equilibrium.specs.Accuracy.{PromisedDepth};
-ghost use Rattle.equilibrium.specs.Whole.{DepthOk, concreteAt, excess, Columns, Trial};
+ghost use Rattle.equilibrium.specs.Code.Columns.{layersIn};
+ghost use Rattle.equilibrium.specs.Code.Whole.{liftSum, restAt, excessBy, excess, ExcessBounds, Trial};
 
-// 1,000·E·d of each layer in one column, 800·A in the other.
-fn fill_columns(x: Design, s: Section, starts: &mut [i64; 16], shares: &mut [i64; 16])
-    requires { ⌜ Usable x (s .count) (layersOf s) × ((length (now starts) ≡ 16) × (length (now shares) ≡ 16)) ⌝ }
-    ensures { λ r. ⌜ Columns x (s .count) (layersOf s) (now (starts .exit)) (now (shares .exit)) ⌝ }
+// The lift of all layers at a depth and at the next tenth.
+struct Lifts {
+    at: u64,
+    next: u64,
+}
+
+// What the internal force exceeds N by, at a depth and at the next tenth, 80,000·u times.
+struct Pair {
+    at: i64,
+    next: i64,
+}
+
+// One walk over the layers for v and v + 1.
+fn lift_pair(x: Design, count: usize, depths: &[u32; 16], areas: &[u32; 16], v: u64) -> Lifts
+    requires { ⌜ Usable x count (layersIn count (now depths) (now areas)) × (v < 20000) ⌝ }
+    ensures at { λ r. ⌜ r .at ≡ liftSum x (layersIn count (now (depths .entry)) (now (areas .entry))) v ⌝ }
+    ensures next { λ r. ⌜ r .next ≡ liftSum x (layersIn count (now (depths .entry)) (now (areas .entry))) (v + 1) ⌝ }
 {
-    let layers = s.layers;
-    let count = s.count;
+    let mut here: u64 = 0;
+    let mut there: u64 = 0;
     let mut i: usize = 0;
     while i < count {
-        let l = layers[i];
-        starts[i] = (1000 * x.m.e * (l.depth as u64)) as i64;
-        shares[i] = (800 * (l.area as u64)) as i64;
+        let depth = depths[i];
+        let area = areas[i];
+        here += layer_lift(x, v, depth, area);
+        there += layer_lift(x, v + 1, depth, area);
         i += 1;
+    }
+    Lifts {
+        at: here,
+        next: there,
     }
 }
 
-// 80,000·u times the force of the concrete less N.
-fn concrete_at(x: Design, n: i64, u: u64) -> i64
-    requires { ⌜ Bounded x × (Within n 500000000 × DepthOk x u) ⌝ }
-    ensures { λ r. ⌜ r ≡ concreteAt x n u ⌝ }
-    ensures small { λ r. ⌜ Within r 1107200000000000000 ⌝ }
+// f·L·b: 80,000 times the force of the concrete for each tenth of its depth.
+fn concrete_of(x: Design) -> u64
+    requires { ⌜ Bounded x ⌝ }
+    ensures { λ r. ⌜ r ≡ x .m .f * x .m .l * x .b ⌝ }
 {
-    ((x.m.f * x.m.l * x.b * u) as i64 - 80000 * n) * (u as i64)
+    x.m.f * x.m.l * x.b
 }
 
-// 80,000·u times what the internal force exceeds N by.
-fn excess_at(x: Design, s: Section, starts: &[i64; 16], shares: &[i64; 16], n: i64, u: u64) -> i64
-    requires { ⌜ Trial x (s .count) (layersOf s) (now starts) (now shares) n u ⌝ }
-    ensures { λ r. ⌜ r ≡ excess x (layersOf s) n u ⌝ }
+// 80,000·N and what the steel carries in tension.
+fn rest_of(x: Design, steel: u64, n: i64) -> i64
+    requires { ⌜ Bounded x × ((steel ≤ 320000) × Within n 500000000) ⌝ }
+    ensures { λ r. ⌜ r ≡ restAt x steel n ⌝ }
 {
-    let rise = (100 * x.m.e * u) as i64;
-    let limit = (x.m.s * u) as i64;
-    let mut steel: i64 = 0;
-    let mut i: usize = 0;
-    while i < s.count {
-        steel += shares[i] * held(limit, rise - starts[i]);
-        i += 1;
+    80000 * n + (800 * x.m.s * steel) as i64
+}
+
+fn excess_of(x: Design, steel: u64, n: i64, lift: u64, u: u64) -> i64
+    requires { ⌜ ExcessBounds x steel n lift u ⌝ }
+    ensures { λ r. ⌜ r ≡ excessBy x steel n lift u ⌝ }
+{
+    ((concrete_of(x) * u) as i64 - rest_of(x, steel, n)) * (u as i64) + (800 * lift) as i64
+}
+
+fn excesses(
+    x: Design,
+    count: usize,
+    depths: &[u32; 16],
+    areas: &[u32; 16],
+    steel: u64,
+    n: i64,
+    v: u64,
+) -> Pair
+    requires { ⌜ Trial x count (layersIn count (now depths) (now areas)) steel n × (v < 20000) ⌝ }
+    ensures at { λ r. ⌜ r .at ≡ excess x (layersIn count (now (depths .entry)) (now (areas .entry))) n v ⌝ }
+    ensures next { λ r. ⌜ r .next ≡ excess x (layersIn count (now (depths .entry)) (now (areas .entry))) n (v + 1) ⌝ }
+{
+    let t = lift_pair(x, count, depths, areas, v);
+    let at = excess_of(x, steel, n, t.at, v);
+    let next = excess_of(x, steel, n, t.next, v + 1);
+    Pair { at: at, next: next }
+}
+
+// Where to begin: the depth at which the concrete carries N with all steel yielded in tension. Nothing rests on it.
+fn first_guess(x: Design, steel: u64, n: i64) -> i64
+    requires { ⌜ Bounded x × ((steel ≤ 320000) × Within n 500000000) ⌝ }
+{
+    rest_of(x, steel, n) / (concrete_of(x) as i64)
+}
+
+// Where the line through the excess at v and at v + 1 meets 0. Nothing rests on it.
+fn tangent(at: i64, next: i64, v: u64) -> i64
+    requires { ⌜ Within at 2028800000000000000 × (Within next 2028800000000000000 × (v ≤ 20000)) ⌝ }
+{
+    let slope = next - at;
+    if slope < 1 {
+        return v as i64;
     }
-    concrete_at(x, n, u) + steel
+    if 0 < at {
+        return v as i64 - (next - 1) / slope;
+    }
+    v as i64 - at / slope
 }
 
-fn carries_at(x: Design, s: Section, starts: &[i64; 16], shares: &[i64; 16], n: i64, u: u64) -> bool
-    requires { ⌜ Trial x (s .count) (layersOf s) (now starts) (now shares) n u ⌝ }
-    ensures { λ r. ⌜ r ≡ carries x (layersOf s) n u ⌝ }
+// The guess for the next round: by the line, and the middle once no round of these is left.
+fn next_guess(at: i64, next: i64, v: u64, lo: u64, hi: u64, left: u64) -> i64
+    requires { ⌜ (Within at 2028800000000000000 × (Within next 2028800000000000000 × (v ≤ 20000))) × ((lo ≤ 20000) × (hi ≤ 20000)) ⌝ }
 {
-    excess_at(x, s, starts, shares, n, u) <= 0
+    if left < 1 {
+        return ((lo + hi) / 2) as i64;
+    }
+    tangent(at, next, v)
 }
 
-fn reaches_at(x: Design, s: Section, starts: &[i64; 16], shares: &[i64; 16], n: i64) -> bool
-    requires { ⌜ Trial x (s .count) (layersOf s) (now starts) (now shares) n (10 * x .h) ⌝ }
-    ensures { λ r. ⌜ r ≡ reaches x (layersOf s) n ⌝ }
+// A guess, held within lo and hi - 1.
+fn chosen(guess: i64, lo: u64, hi: u64) -> u64
+    requires { ⌜ (lo < hi) × (hi ≤ 20000) ⌝ }
+    ensures { λ r. ⌜ (lo ≤ r) × (r < hi) ⌝ }
 {
-    0 <= excess_at(x, s, starts, shares, n, 10 * x.h)
+    if guess < 0 {
+        return lo;
+    }
+    let g = guess as u64;
+    if g < lo {
+        return lo;
+    }
+    if g < hi { g } else { hi - 1 }
 }
 
-// The rule of halving: a least and a greatest candidate, first 1 and 10h; their mean rounded up is tried.
-fn halved(x: Design, s: Section, starts: &[i64; 16], shares: &[i64; 16], n: i64) -> u64
-    requires { ⌜ Trial x (s .count) (layersOf s) (now starts) (now shares) n 1 × (carries x (layersOf s) n 1 ≡ true) ⌝ }
-    ensures { λ r. ⌜ r ≡ greatest (carries x (layersOf s) n) (10 * x .h) ⌝ }
+fn fewer(left: u64) -> u64 {
+    if left < 1 { 0 } else { left - 1 }
+}
+
+// The greatest depth that carries, where 1 does: from lo to hi, as lo carries and nothing above hi does. A round tries a depth and the
+// next tenth, wherever the guess is: they are on both sides of the answer, or both are below it or both above.
+fn by_pairs(
+    x: Design,
+    count: usize,
+    depths: &[u32; 16],
+    areas: &[u32; 16],
+    steel: u64,
+    n: i64,
+) -> u64
+    requires { ⌜ Trial x count (layersIn count (now depths) (now areas)) steel n ⌝ }
+    requires { ⌜ carries x (layersIn count (now depths) (now areas)) n 1 ≡ true ⌝ }
+    ensures { λ r. ⌜ r ≡ greatest (carries x (layersIn count (now (depths .entry)) (now (areas .entry))) n) (10 * x .h) ⌝ }
 {
     let mut lo: u64 = 1;
     let mut hi: u64 = 10 * x.h;
+    let mut guess = first_guess(x, steel, n);
+    let mut left: u64 = 7;
     while lo < hi {
-        let mid = (lo + hi + 1) / 2;
-        if carries_at(x, s, starts, shares, n, mid) {
-            lo = mid;
+        let v = chosen(guess, lo, hi);
+        let p = excesses(x, count, depths, areas, steel, n, v);
+        let at = p.at;
+        let next = p.next;
+        left = fewer(left);
+        if 0 < at {
+            hi = v - 1;
+            guess = next_guess(at, next, v, lo, hi, left);
         } else {
-            hi = mid - 1;
+            if 0 < next {
+                lo = v;
+                hi = v;
+            } else {
+                lo = v + 1;
+                guess = next_guess(at, next, v, lo, hi, left);
+            }
         }
     }
     lo
 }
 
-fn by_trials(x: Design, s: Section, starts: &[i64; 16], shares: &[i64; 16], n: i64) -> Depth
-    requires { ⌜ Trial x (s .count) (layersOf s) (now starts) (now shares) n 1 ⌝ }
-    ensures { λ r. ⌜ r ≡ depthFor x (layersOf s) n ⌝ }
+// The depth of an accepted section under N, with the face compressed from which its depths are measured; or 11 or 12. At depth 1 all
+// steel is at −s/100, so 11 asks no walk; 12 is asked only where the search ends at 10h.
+pub fn depth_for(
+    x: Design,
+    count: usize,
+    depths: &[u32; 16],
+    areas: &[u32; 16],
+    steel: u64,
+    n: i64,
+) -> Depth
+    requires { ⌜ Trial x count (layersIn count (now depths) (now areas)) steel n ⌝ }
+    ensures { λ r. ⌜ r ≡ depthFor x (layersIn count (now (depths .entry)) (now (areas .entry))) n ⌝ }
+    ensures promised { λ r. ⌜ PromisedDepth x (layersIn count (now (depths .entry)) (now (areas .entry))) n r ⌝ }
 {
-    if !carries_at(x, s, starts, shares, n, 1) {
+    if rest_of(x, steel, n) < concrete_of(x) as i64 {
         return Depth::Refused(11);
     }
-    if !reaches_at(x, s, starts, shares, n) {
+    let top = 10 * x.h;
+    let u = by_pairs(x, count, depths, areas, steel, n);
+    if u < top {
+        return Depth::At(u);
+    }
+    let p = excesses(x, count, depths, areas, steel, n, top - 1);
+    if p.next < 0 {
         return Depth::Refused(12);
     }
-    Depth::At(halved(x, s, starts, shares, n))
-}
-
-// The depth of an accepted section under N, with the face compressed from which its depths are measured; or 11 or 12.
-pub fn depth_for(x: Design, s: Section, n: i64) -> Depth
-    requires { ⌜ Usable x (s .count) (layersOf s) × Within n 500000000 ⌝ }
-    ensures { λ r. ⌜ r ≡ depthFor x (layersOf s) n ⌝ }
-    ensures promised { λ r. ⌜ PromisedDepth x (layersOf s) n r ⌝ }
-{
-    let mut starts = [0i64; 16];
-    let mut shares = [0i64; 16];
-    fill_columns(x, s, &mut starts, &mut shares);
-    by_trials(x, s, &starts, &shares, n)
+    Depth::At(u)
 }

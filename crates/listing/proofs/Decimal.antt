@@ -9,7 +9,7 @@ use borrow.Author.Tests.{lt-ltb, le-ltb, ltb-true, ltb-false}
 use lib.Dec.{lit<, ltb}
 use lib.IntN.{ℤ, pos, negsuc, natAbs}
 use lib.ListN.{length, length-append}
-use lib.Signed.{mag, _<ℤ_, _≤ℤ_}
+use lib.Signed.{_<ℤ_, _≤ℤ_}
 use Rattle.arith.proofs.Ring.{of-lt}
 use Rattle.listing.specs.Text.{digit, digitsIn, natural, integer}
 
@@ -28,7 +28,8 @@ enough zero g n p q = few zero n (omega arith) ∙ sym (few g n (omega arith))
 enough (suc f) zero n p q = few (suc f) n (omega arith) ∙ sym (few zero n (omega arith))
 enough (suc f) (suc g) n p q = go (enough f g (n / 10)) (ltb n 10) refl
   where
-    go : (n / 10 ≤ f → n / 10 ≤ g → digitsIn (suc f) (n / 10) ≡ digitsIn (suc g) (n / 10)) → (t : Bool) → ltb n 10 ≡ t → digitsIn (suc (suc f)) n ≡ digitsIn (suc (suc g)) n
+    go : (n / 10 ≤ f → n / 10 ≤ g → digitsIn (suc f) (n / 10) ≡ digitsIn (suc g) (n / 10)) → (t : Bool) → ltb n 10 ≡ t
+        → digitsIn (suc (suc f)) n ≡ digitsIn (suc (suc g)) n
     go e true t = few (suc f) n (ltb-true n 10 t) ∙ sym (few (suc g) n (ltb-true n 10 t))
     go e false t =
         let h = ltb-false n 10 t in
@@ -61,7 +62,7 @@ natural-most (suc k) n h = go (natural-most k (n / 10)) (ltb n 10) refl
     go e false t =
         omega (arith, length-more n (ltb-false n 10 t), e (div-lt-iff-lt-mul (lit< tt) .1 (subst (λ (x : ℕ). n < x) (pow-suc 10 (suc k)) h)))
 
-pub integer-most : (x : ℤ) → mag x < 2 ^ 63 → length (integer x) ≤ 20
+pub integer-most : (x : ℤ) → natAbs x ≤ 2 ^ 63 → length (integer x) ≤ 20
 unfolding integer
 integer-most (pos n) h = natural-most 19 n (omega arith)
 integer-most (negsuc n) h = omega (arith, natural-most 18 (suc n) (omega arith))

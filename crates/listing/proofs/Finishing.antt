@@ -1,18 +1,23 @@
 -- Writing one text after another into a buffer. Assumes nothing.
 use mathlib.Core.Path.{_≡_, refl, sym, ap, ap₂, _∙_}
+use mathlib.Core.Bool.{true, false}
 use mathlib.Core.List.{List, [], _∷_, _++_}
-use Prim.Native.Nat.{ℕ, suc, _+_, _≤_, _<_}
+use Prim.Native.Nat.{ℕ, _+_, _≤_, _<_}
+use native.Mathlib.Nat.{zero-add}
 use native.Mathlib.Numerals.{add-one}
 use native.Mathlib.Omega.{arith}
+use lib.Dec.{leb}
 use lib.ListN.{length, take, drop, set, length-append}
-use lib.Seq.{set-split, length-take-le}
+use lib.Seq.{set-split}
 use Rattle.record.specs.Bytes.{placed}
 use Rattle.record.proofs.Lent.{placed-none, placed-more, length-placed}
 use Rattle.clauses.specs.declared.Listed.{Listed}
 use Rattle.record.specs.declared.Reading.{Reading}
+use Rattle.record.specs.declared.Written.{Written}
 use Rattle.listing.specs.Line.{line}
 use Rattle.listing.specs.Records.{answerOf, lines}
-use Rattle.listing.specs.Buffer.{Put}
+use Rattle.listing.specs.Code.Buffer.{Put}
+use Rattle.listing.specs.Answers.{textWritten, textBuffer}
 
 -- one byte
 pub stored : (xs : List ℕ) (at b : ℕ) → at < length xs → Put xs at (b ∷ []) (set xs at b) (at + 1)
@@ -44,7 +49,8 @@ pub begun : (xs : List ℕ) (at : ℕ) (whole : List ℕ) → Left xs at whole x
 begun xs at whole = record { end = refl; bytes = refl; size = refl }
 
 -- the next part is written
-pub next : {xs ys zs whole : List ℕ} {at j k : ℕ} {s : List ℕ} (t : List ℕ) → j + length s ≤ length ys → Left xs at whole ys j (s ++ t) → Put ys j s zs k → Left xs at whole zs k t
+next : {xs ys zs whole : List ℕ} {at j k : ℕ} {s : List ℕ} (t : List ℕ) → j + length s ≤ length ys
+    → Left xs at whole ys j (s ++ t) → Put ys j s zs k → Left xs at whole zs k t
 next {xs} {ys} {zs} {whole} {at} {j} {k} {s} t h l p =
     record {
       end = omega (arith, p .end, l .end, length-append s t);
@@ -59,18 +65,23 @@ finished {xs} {ys} {whole} {at} {j} l = record { end = omega (arith, l .end); by
 pub has-room : {xs ys whole : List ℕ} {at j : ℕ} (s t : List ℕ) → at + length whole ≤ length xs → Left xs at whole ys j (s ++ t) → j + length s ≤ length ys
 has-room s t h l = omega (arith, l .end, l .size, length-append s t)
 
-pub next-in : {xs ys zs whole : List ℕ} {at j k : ℕ} {s : List ℕ} (t : List ℕ) → at + length whole ≤ length xs → Left xs at whole ys j (s ++ t) → Put ys j s zs k → Left xs at whole zs k t
+pub next-in : {xs ys zs whole : List ℕ} {at j k : ℕ} {s : List ℕ} (t : List ℕ) → at + length whole ≤ length xs
+    → Left xs at whole ys j (s ++ t) → Put ys j s zs k → Left xs at whole zs k t
 next-in {s} t h l p = next t (has-room s t h l) l p
 
--- the line of the record at hand is written
-pub next-line : {xs ys zs whole : List ℕ} {at j i : ℕ} {a : Listed} {r : Reading} {rs rest : List Reading} (k : ℕ) → rs ≡ r ∷ rest → a ≡ answerOf r → j + length (line k a) ≤ length ys
-    → Left xs at whole ys j (lines k rs) → Put ys j (line k a) zs i → Left xs at whole zs i (lines (k + 1) rest)
+-- the line of the record at hand is the next part
+pub line-first : {xs ys whole : List ℕ} {at j : ℕ} {a : Listed} {r : Reading} {rs rest : List Reading} (k : ℕ) → rs ≡ r ∷ rest → a ≡ answerOf r
+    → Left xs at whole ys j (lines k rs) → Left xs at whole ys j (line k a ++ lines (k + 1) rest)
 unfolding lines
-next-line {a} {r} {rs} {rest} k e is h l p = rw add-one (next (lines (suc k) rest) h (rw (is) (rw e at l)) p)
+line-first k e is l = rw (add-one, is) (rw e at l)
 
--- a text at the start lies within the buffer
-pub within : {xs s ys : List ℕ} {next : ℕ} → Put xs 0 s ys next → (next ≤ length ys) × (next ≡ length (take next ys))
-unfolding placed
-within {xs} {s} {ys} {next} p =
-    let h : next ≤ length ys = omega (arith, p .end, ap length (p .bytes), length-append s (drop (0 + length s) xs)) in
-    (h, sym (length-take-le next ys h))
+-- ---- a text that is put at the start of a buffer which has room for it, and one that is not
+module _ (room : ℕ) (text buffer : List ℕ) where
+  abbrev Answered : Written → List ℕ → Type 0
+  Answered r ys = (r ≡ textWritten room text buffer) × (ys ≡ textBuffer room text buffer)
+
+  pub put-whole : {ys : List ℕ} {n : ℕ} → leb room (length buffer) ≡ true → Put buffer 0 text ys n → Answered (record { refusal = 0; length = n }) ys
+  put-whole e p = (rw e (ap (λ (k : ℕ). record { refusal = 0; length = k }) (p .end ∙ zero-add (length text))), rw e (p .bytes))
+
+  pub put-none : leb room (length buffer) ≡ false → Answered (record { refusal = 25; length = 0 }) buffer
+  put-none e = (rw e, rw e)

@@ -1,5 +1,7 @@
 pub mod Decimal
 pub mod Finishing
-pub mod Following
 pub mod Longest
-pub mod Seen
+pub mod Sizes
+pub mod Lengths
+pub mod Following
+pub mod Laws

@@ -1,4 +1,6 @@
 pub mod Text
 pub mod Line
 pub mod Records
-pub mod Buffer
+pub mod Code
+pub mod Answers
+pub mod Program

@@ -4,7 +4,7 @@ ghost use mathlib.Core.List.{[], _∷_, map};
 ghost use lib.ListN.{length};
 ghost use Rattle.listing.specs.Text.{natural, integer};
 ghost use Rattle.listing.specs.Line.{spaced};
-ghost use Rattle.listing.specs.Buffer.{Put};
+ghost use Rattle.listing.specs.Code.Buffer.{Put};
 
 pub fn put_byte(out: &mut [u8], at: usize, byte: u8) -> usize
     requires { ⌜ at + 1 ≤ length (now out) ⌝ }
@@ -27,7 +27,7 @@ pub fn put_natural(out: &mut [u8], at: usize, n: u64) -> usize
     }
 }
 
-pub fn put_integer(out: &mut [u8], at: usize, x: i64) -> usize
+fn put_integer(out: &mut [u8], at: usize, x: i64) -> usize
     requires { ⌜ at + length (integer x) ≤ length (now out) ⌝ }
     ensures { λ r. ⌜ Put (now (out .entry)) at (integer x) (now (out .exit)) r ⌝ }
 {
@@ -41,7 +41,7 @@ pub fn put_integer(out: &mut [u8], at: usize, x: i64) -> usize
 }
 
 // A space and a number.
-pub fn put_word(out: &mut [u8], at: usize, n: u64) -> usize
+fn put_word(out: &mut [u8], at: usize, n: u64) -> usize
     requires { ⌜ at + length (32 ∷ natural n) ≤ length (now out) ⌝ }
     ensures { λ r. ⌜ Put (now (out .entry)) at (32 ∷ natural n) (now (out .exit)) r ⌝ }
 {

@@ -5,10 +5,10 @@ use mathlib.Core.Bool.{cond}
 use mathlib.Core.Path.{_≡_}
 use native.Mathlib.Omega.{arith}
 use lib.Dec.{T, leb, eqb, eqb→eq}
-use Rattle.arith.specs.Fraction.{by, whole, ratio, _-ᶠ_, _*ᶠ_, _/ᶠ_}
+use Rattle.arith.specs.Fraction.{whole, ratio, _-ᶠ_, _*ᶠ_, _/ᶠ_, _÷ᶠ_, floor, roundedDown}
 use Rattle.arith.proofs.Computed.{allBelow, below}
 use Rattle.materials.specs.Situation.{persistent}
-use Rattle.materials.specs.Strength.{roundedDown, depthFactor, strengthFactor, L, f, g, s}
+use Rattle.materials.specs.Strength.{depthFactor, strengthFactor, L, f, g, s}
 
 -- the partial factors as the code has them, γc in tenths and γs in hundredths
 abbrev γc : ℕ
@@ -34,17 +34,17 @@ abbrev s-code : ℕ → ℕ
 s-code k = 10000 * k / γs
 
 pub L-is : (k : ℕ) → k ≤ 90 → L-code k ≡ L k
-unfolding by whole _-ᶠ_ _*ᶠ_ _/ᶠ_ roundedDown depthFactor L
+unfolding whole _-ᶠ_ _*ᶠ_ _/ᶠ_ floor roundedDown depthFactor L
 L-is k h = agree L-code L 91 k tt (omega arith)
 
 pub f-is : (k : ℕ) → k ≤ 90 → f-code k ≡ f persistent k
-unfolding by whole ratio _-ᶠ_ _*ᶠ_ _/ᶠ_ roundedDown strengthFactor f
+unfolding whole ratio _-ᶠ_ _*ᶠ_ _/ᶠ_ _÷ᶠ_ floor roundedDown strengthFactor f
 f-is k h = agree f-code (f persistent) 91 k tt (omega arith)
 
 pub g-is : (k : ℕ) → k ≤ 90 → g-code k ≡ g persistent k
-unfolding whole ratio _*ᶠ_ _/ᶠ_ roundedDown g
+unfolding whole ratio _*ᶠ_ _÷ᶠ_ floor roundedDown g
 g-is k h = agree g-code (g persistent) 91 k tt (omega arith)
 
 pub s-is : (k : ℕ) → k ≤ 600 → s-code k ≡ s persistent k
-unfolding whole _/ᶠ_ roundedDown s
+unfolding whole _÷ᶠ_ floor roundedDown s
 s-is k h = agree s-code (s persistent) 601 k tt (omega arith)

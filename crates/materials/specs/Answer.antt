@@ -1,44 +1,71 @@
--- What is answered of fck and fyk, tests 3 and 4 of document 01, and what is promised of the answer. Assumes nothing.
-use Prim.Native.Nat.{ℕ, _≤_}
-use mathlib.Core.Logic.{_⊎_}
+-- What is answered of a grade, tests 3 and 4 of document 01, and what is promised of the answer. Assumes nothing.
+use Prim.Native.Nat.{ℕ, zero, suc, _≤_}
+use mathlib.Core.List.{List, [], _∷_}
 use mathlib.Core.Path.{_≡_, refl}
-use lib.IntN.{ℤ, pos, natAbs}
-use Rattle.arith.specs.Chain.{unless}
+use lib.IntN.{pos, natAbs}
+use Rattle.arith.specs.Chain.{test, firstFailing, OneOf}
+use Rattle.arith.specs.Fraction.{Same, whole, _*ᶠ_}
 use Rattle.arith.specs.Integer.{inRange}
+use Rattle.materials.specs.declared.Grade.{Grade}
+use Rattle.materials.specs.declared.Class.{Class}
 use Rattle.materials.specs.declared.Materials.{Materials}
 use Rattle.materials.specs.declared.Answer.{Answer}
 use Rattle.materials.specs.declared.Answer.the-variants.{Known, Refused}
 use Rattle.materials.specs.declared.Row.{Row}
 use Rattle.materials.specs.declared.Row.the-variants.{Found, Missing}
-use Rattle.materials.specs.Table.{rowOf}
+use Rattle.materials.specs.Table.{rowOf, inTable}
 use Rattle.materials.specs.Situation.{Situation, persistent}
-use Rattle.materials.specs.Strength.{L, f, g, s}
+use Rattle.materials.specs.Strength.{depthFactor, L, f, g, s}
 
-abbrev pub numbers : Situation → ℕ → ℕ → ℕ → ℕ → Materials
-numbers j fck fyk t e =
-    record { fck = fck; fyk = fyk; t = t; e = e; l = L fck; f = f j fck; g = g j fck; s = s j fyk }
+-- the tests of a grade, in 01's sequence
+abbrev pub gradeTests : Grade → List ℕ
+gradeTests grade =
+    -- 3 fck not in the table
+    test 3 (inTable (rowOf (grade .fck)))
+    -- 4 fyk outside 400 to 600
+    ∷ test 4 (inRange (pos 400) (pos 600) (grade .fyk))
+    ∷ []
 
--- 3: fck is not in the table; then 4: fyk is outside 400 to 600
-abbrev pub answered : Situation → ℤ → ℤ → Row → Answer
-answered j fck fyk Missing = Refused 3
-answered j fck fyk (Found t e) =
-    unless (inRange (pos 400) (pos 600) fyk) (Refused 4)
-    (Known (numbers j (natAbs fck) (natAbs fyk) t e))
+-- the numbers that they have
+abbrev pub gradeRefusals : List ℕ
+gradeRefusals = 3 ∷ 4 ∷ []
 
--- Sealed: no part above sees more of it than the promise.
-pub materialsOf : ℤ → ℤ → Answer
-materialsOf fck fyk = answered persistent fck fyk (rowOf fck)
+-- the letters of 01, of a class and a steel that passed
+abbrev pub numbers : Situation → ℕ → ℕ → Class → Materials
+numbers j fck fyk class =
+    record { fck = fck; fyk = fyk; t = class .t; e = class .e; l = L fck; f = f j fck; g = g j fck; s = s j fyk }
 
--- the one way to look inside, for this crate's proofs and for the worked cases
-pub opened : (fck fyk : ℤ) → materialsOf fck fyk ≡ answered persistent fck fyk (rowOf fck)
+-- The refusal of the first test that fails, or the letters. (The class of a grade that passed is in the table: the last line is never met.)
+abbrev pub answered : Situation → Grade → ℕ → Row → Answer
+answered j grade (suc k) row = Refused (suc k)
+answered j grade zero (Found class) = Known (numbers j (natAbs (grade .fck)) (natAbs (grade .fyk)) class)
+answered j grade zero Missing = Refused 3
+
+abbrev pub materialsIn : Situation → Grade → Answer
+materialsIn j grade = answered j grade (firstFailing (gradeTests grade)) (rowOf (grade .fck))
+
+-- Sealed: no page outside can look into it. `opened` says what it is, for this crate's proofs and for the worked cases; the parts above
+-- use the promise below and no other statement about it.
+pub materialsOf : Grade → Answer
+materialsOf grade = materialsIn persistent grade
+
+pub opened : (grade : Grade) → materialsOf grade ≡ materialsIn persistent grade
 unfolding materialsOf
-opened fck fyk = refl
+opened grade = refl
 
--- The promise: the bounds of every number,
+-- the paper's number for each case of the answer: the refusal, 0 for none
+abbrev pub refusalNumber : Answer → ℕ
+refusalNumber (Known m) = 0
+refusalNumber (Refused k) = k
+
+-- "L is 80 times the depth factor, always whole": of every class nothing is rounded
+abbrev pub ExactBlock : Answer → Type 0
+ExactBlock (Known m) = Same (whole (m .l)) (whole 80 *ᶠ depthFactor (m .fck))
+ExactBlock (Refused k) = Unit {0}
+
+-- The promise, no more than the parts above use: bounds of the numbers,
 pub record Bounds (m : Materials) : Type 0 where
-  pub fck-low : 1 ≤ m .fck
   pub fck-high : m .fck ≤ 90
-  pub fyk-low : 400 ≤ m .fyk
   pub fyk-high : m .fyk ≤ 600
   pub T-high : m .t ≤ 50
   pub E-low : 520 ≤ m .e
@@ -47,19 +74,19 @@ pub record Bounds (m : Materials) : Type 0 where
   pub L-high : m .l ≤ 64
   pub f-low : 1 ≤ m .f
   pub f-high : m .f ≤ 6000
-  pub f-most : m .f ≤ m .g
-  pub g-low : 1 ≤ m .g
   pub g-high : m .g ≤ 7500
-  pub s-low : 1 ≤ m .s
   pub s-high : m .s ≤ 60000
 
 -- of the strengths that were asked for;
-pub record Promise (fck fyk : ℤ) (m : Materials) : Type 0 where
-  pub fck-is : fck ≡ pos (m .fck)
-  pub fyk-is : fyk ≡ pos (m .fyk)
+pub record Asked (grade : Grade) (m : Materials) : Type 0 where
+  pub fck-is : grade .fck ≡ pos (m .fck)
+  pub fyk-is : grade .fyk ≡ pos (m .fyk)
+
+pub record Promise (grade : Grade) (m : Materials) : Type 0 where
+  pub asked : Asked grade m
   pub bounds : Bounds m
 
--- and no refusal but 3 and 4.
-abbrev pub Promised : ℤ → ℤ → Answer → Type 0
-Promised fck fyk (Known m) = Promise fck fyk m
-Promised fck fyk (Refused k) = (k ≡ 3) ⊎ (k ≡ 4)
+-- and no refusal but those of its own tests.
+abbrev pub Promised : Grade → Answer → Type 0
+Promised grade (Known m) = Promise grade m
+Promised grade (Refused k) = OneOf gradeRefusals k

@@ -1,34 +1,30 @@
 -- The stress block of 3.1.7(3) and the design strengths of 3.1.6(1) and 3.2.7(2), by the letters of document 01. Assumes nothing.
-use Prim.Native.Nat.{ℕ, _-_, _*_, _/_}
+use Prim.Native.Nat.{ℕ, _-_, _*_}
 use mathlib.Core.Bool.{cond}
 use lib.Dec.{leb}
-use Rattle.arith.specs.Fraction.{Fraction, by, whole, ratio, _-ᶠ_, _*ᶠ_, _/ᶠ_}
+use Rattle.arith.specs.Fraction.{Fraction, whole, ratio, _-ᶠ_, _*ᶠ_, _/ᶠ_, _÷ᶠ_, roundedDown}
 use Rattle.materials.specs.Situation.{Situation}
-
--- 01's "rounded down", of a fraction that is not below 0
-unfoldable pub roundedDown : Fraction → ℕ
-roundedDown a = (a .plus - a .minus) / a .over
 
 -- the depth factor λ: 0.8 up to fck 50, above it 0.8 − (fck − 50)/400
 unfoldable pub depthFactor : ℕ → Fraction
-depthFactor fck = cond (leb fck 50) (whole 8 /ᶠ by 10) (whole 8 /ᶠ by 10 -ᶠ whole (fck - 50) /ᶠ by 400)
+depthFactor fck = cond (leb fck 50) (whole 8 /ᶠ 10) (whole 8 /ᶠ 10 -ᶠ whole (fck - 50) /ᶠ 400)
 
 -- the strength factor η: 1 up to fck 50, above it 1 − (fck − 50)/200
 unfoldable pub strengthFactor : ℕ → Fraction
-strengthFactor fck = cond (leb fck 50) (whole 1) (whole 1 -ᶠ whole (fck - 50) /ᶠ by 200)
+strengthFactor fck = cond (leb fck 50) (whole 1) (whole 1 -ᶠ whole (fck - 50) /ᶠ 200)
 
--- 01's L: 80 times the depth factor
+-- 01's L: 80 times the depth factor. From a class of the table the rounding takes nothing: `ExactBlock`
 unfoldable pub L : ℕ → ℕ
 L fck = roundedDown (whole 80 *ᶠ depthFactor fck)
 
 -- 01's f, for the block: the strength factor times 100·αcc·fck/γc
 unfoldable pub f : Situation → ℕ → ℕ
-f j fck = roundedDown (strengthFactor fck *ᶠ whole (100 * fck) *ᶠ ratio (j .αcc) /ᶠ j .γc)
+f j fck = roundedDown (strengthFactor fck *ᶠ whole (100 * fck) *ᶠ ratio (j .αcc) ÷ᶠ j .γc)
 
 -- 01's g: 100·αcc·fck/γc
 unfoldable pub g : Situation → ℕ → ℕ
-g j fck = roundedDown (whole (100 * fck) *ᶠ ratio (j .αcc) /ᶠ j .γc)
+g j fck = roundedDown (whole (100 * fck) *ᶠ ratio (j .αcc) ÷ᶠ j .γc)
 
 -- 01's s: 100·fyk/γs
 unfoldable pub s : Situation → ℕ → ℕ
-s j fyk = roundedDown (whole (100 * fyk) /ᶠ j .γs)
+s j fyk = roundedDown (whole (100 * fyk) ÷ᶠ j .γs)

@@ -1,17 +1,22 @@
 -- The concrete classes: document 01, "Materials", after Table 3.1 of EN 1992-1-1. Assumes nothing.
 use Prim.Native.Nat.{ℕ}
-use mathlib.Core.Bool.{cond}
+use mathlib.Core.Bool.{Bool, true, false, cond}
 use mathlib.Core.List.{List, [], _∷_}
 use lib.Dec.{eqb}
 use lib.IntN.{ℤ, pos, negsuc}
+use Rattle.materials.specs.declared.Class.{Class}
 use Rattle.materials.specs.declared.Row.{Row}
 use Rattle.materials.specs.declared.Row.the-variants.{Found, Missing}
 
--- a column of the table: fck; 01's T, fctm in tenths of N/mm²; 01's E, 200,000 N/mm² times the printed strain εcu3
-pub data Class : Type 0 where
-  class : ℕ → ℕ → ℕ → Class
+-- an entry of the table: fck, and what is printed of that class
+pub data Entry : Type 0 where
+  entry : ℕ → Class → Entry
 
-abbrev pub table : List Class
+-- fck; 01's T, fctm in tenths of N/mm²; 01's E, 200,000 N/mm² times the printed strain εcu3
+abbrev class : ℕ → ℕ → ℕ → Entry
+class fck T E = entry fck record { t = T; e = E }
+
+abbrev pub table : List Entry
 table =
     class 12 16 700
     ∷ class 16 19 700
@@ -29,11 +34,15 @@ table =
     ∷ class 90 50 520
     ∷ []
 
--- T and E of the class whose strength is fck
-abbrev pub find : ℕ → List Class → Row
+-- the class whose strength is fck
+abbrev pub find : ℕ → List Entry → Row
 find fck [] = Missing
-find fck (class strength t e ∷ classes) = cond (eqb fck strength) (Found t e) (find fck classes)
+find fck (entry strength class ∷ entries) = cond (eqb fck strength) (Found class) (find fck entries)
 
 abbrev pub rowOf : ℤ → Row
 rowOf (pos fck) = find fck table
 rowOf (negsuc k) = Missing
+
+abbrev pub inTable : Row → Bool
+inTable (Found class) = true
+inTable Missing = false

@@ -1,10 +1,18 @@
 // Concrete and steel: document 01, "Materials". This is the part that is exchanged country by country.
 ghost use Prim.Native.Nat.{_≤_};
 ghost use mathlib.Core.Path.{_≡_};
+ghost use Rattle.arith.specs.Chain.{firstFailing};
 ghost use Rattle.materials.specs.Table.{table, find, rowOf};
 ghost use Rattle.materials.specs.Situation.{persistent};
 ghost use Rattle.materials.specs.Strength.{f, g, L, s};
-ghost use Rattle.materials.specs.Answer.{numbers, materialsOf, Promised};
+ghost use Rattle.materials.specs.Answer.{numbers, materialsOf, refusalNumber, gradeTests, ExactBlock, Promised};
+
+// What a section asks of the materials: the concrete class and the steel by their strengths, in N/mm², as a record carries them.
+#[repr(C)]
+pub struct Grade {
+    pub fck: i64,
+    pub fyk: i64,
+}
 
 // What the formulas use of the materials, by the letters of document 01.
 #[repr(C)]
@@ -24,15 +32,24 @@ pub struct Materials {
     pub s: u64,
 }
 
-// The materials, or the number of the first test that fails: 3 or 4.
+// The materials, or the number of the first of their tests that fails.
 pub enum Answer {
     Known(Materials),
     Refused(u8),
 }
 
-// T and E of a class, if fck is in the table.
+// What Table 3.1 prints of a class, by the letters of document 01. A further column of that table is a further field.
+#[repr(C)]
+pub struct Class {
+    // T: fctm, in tenths of N/mm²
+    pub t: u64,
+    // E: 200,000 N/mm² times the strain εcu3
+    pub e: u64,
+}
+
+// The class, if fck is in the table.
 pub enum Row {
-    Found(u64, u64),
+    Found(Class),
     Missing,
 }
 
@@ -46,20 +63,20 @@ fn table_row(fck: u64) -> Row
     ensures { λ r. ⌜ r ≡ find fck table ⌝ }
 {
     match fck {
-        12 => Row::Found(16, 700),
-        16 => Row::Found(19, 700),
-        20 => Row::Found(22, 700),
-        25 => Row::Found(26, 700),
-        30 => Row::Found(29, 700),
-        35 => Row::Found(32, 700),
-        40 => Row::Found(35, 700),
-        45 => Row::Found(38, 700),
-        50 => Row::Found(41, 700),
-        55 => Row::Found(42, 620),
-        60 => Row::Found(44, 580),
-        70 => Row::Found(46, 540),
-        80 => Row::Found(48, 520),
-        90 => Row::Found(50, 520),
+        12 => Row::Found(Class { t: 16, e: 700 }),
+        16 => Row::Found(Class { t: 19, e: 700 }),
+        20 => Row::Found(Class { t: 22, e: 700 }),
+        25 => Row::Found(Class { t: 26, e: 700 }),
+        30 => Row::Found(Class { t: 29, e: 700 }),
+        35 => Row::Found(Class { t: 32, e: 700 }),
+        40 => Row::Found(Class { t: 35, e: 700 }),
+        45 => Row::Found(Class { t: 38, e: 700 }),
+        50 => Row::Found(Class { t: 41, e: 700 }),
+        55 => Row::Found(Class { t: 42, e: 620 }),
+        60 => Row::Found(Class { t: 44, e: 580 }),
+        70 => Row::Found(Class { t: 46, e: 540 }),
+        80 => Row::Found(Class { t: 48, e: 520 }),
+        90 => Row::Found(Class { t: 50, e: 520 }),
         _ => Row::Missing,
     }
 }
@@ -112,15 +129,15 @@ fn steel_strength(fyk: u64) -> u64
 }
 
 // All of them, of a class and a steel that passed their tests.
-fn design_values(fck: u64, fyk: u64, t: u64, e: u64) -> Materials
+fn design_values(fck: u64, fyk: u64, class: Class) -> Materials
     requires { ⌜ (fck ≤ 90) × (fyk ≤ 600) ⌝ }
-    ensures { λ r. ⌜ r ≡ numbers persistent fck fyk t e ⌝ }
+    ensures { λ r. ⌜ r ≡ numbers persistent fck fyk class ⌝ }
 {
     Materials {
         fck: fck,
         fyk: fyk,
-        t: t,
-        e: e,
+        t: class.t,
+        e: class.e,
         l: block_depth(fck),
         f: block_strength(fck),
         g: concrete_strength(fck),
@@ -128,16 +145,20 @@ fn design_values(fck: u64, fyk: u64, t: u64, e: u64) -> Materials
     }
 }
 
-// The materials of a concrete class and a steel, or the refusal: 3 fck not in the table, 4 fyk outside 400 to 600.
-pub fn look_up(fck: i64, fyk: i64) -> Answer
-    ensures { λ r. ⌜ r ≡ materialsOf fck fyk ⌝ }
-    ensures promised { λ r. ⌜ Promised fck fyk r ⌝ }
+// The materials of a grade, or the refusal: 3 fck not in the table, 4 fyk outside 400 to 600.
+pub fn look_up(grade: Grade) -> Answer
+    ensures { λ r. ⌜ r ≡ materialsOf grade ⌝ }
+    ensures refusal { λ r. ⌜ refusalNumber r ≡ firstFailing (gradeTests grade) ⌝ }
+    ensures exact { λ r. ⌜ ExactBlock r ⌝ }
+    ensures promised { λ r. ⌜ Promised grade r ⌝ }
 {
+    let fck = grade.fck;
+    let fyk = grade.fyk;
     match row_of(fck) {
         Row::Missing => Answer::Refused(3),
-        Row::Found(t, e) => {
+        Row::Found(class) => {
             if arith::in_range(400, 600, fyk) {
-                Answer::Known(design_values(arith::magnitude(fck), arith::magnitude(fyk), t, e))
+                Answer::Known(design_values(arith::magnitude(fck), arith::magnitude(fyk), class))
             } else {
                 Answer::Refused(4)
             }

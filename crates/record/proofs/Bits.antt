@@ -4,14 +4,15 @@ use mathlib.Core.Bool.{Bool, true, false, cond}
 use mathlib.Core.Logic.{⊎-elim}
 use Prim.Native.Nat.{ℕ, zero, suc, _+_, _-_, _*_, _/_, _%_, _^_, _≤_, _<_}
 use native.Mathlib.Decide.{le-ind}
-use native.Mathlib.Nat.{le-refl, le-trans, le-add-right, le-of-suc-le-suc, lt-of-lt-of-le, lt-suc-self, lt-trans, eq-or-lt-of-le, mod-lt, mod-one, mod-eq-of-lt, add-comm, add-zero, add-suc, one-mul, zero-mul, pow-suc, pow-succ'}
+use native.Mathlib.Nat.{le-refl, le-trans, le-add-right, le-of-suc-le-suc, lt-of-lt-of-le, eq-or-lt-of-le, mod-lt, mod-one, mod-eq-of-lt}
+use native.Mathlib.Nat.{add-comm, one-mul, zero-mul, pow-suc, pow-succ'}
 use native.Mathlib.Numerals.{add-one, one-add}
 use native.Mathlib.Omega.{arith}
 use borrow.Author.Tests.{eqb-true, eqb-false}
 use lib.Count.{ones, ones-cat}
 use lib.Arith.{digits-lt}
-use lib.Dec.{eqb, lit<, lit≤}
-use lib.Pow.{pow-pos, mod-pow-add, shl-exact, high, low, field, mod-mod-pow}
+use lib.Dec.{eqb, lit<}
+use lib.Pow.{pow-pos, pow-mono, mod-pow-add, shl-exact, high, low, field, mod-mod-pow}
 use Rattle.record.specs.Map.{stands, standing, offset, recordLength, mapWith}
 
 ones-bit : (r : ℕ) → r < 2 → ones r ≡ r
@@ -36,6 +37,13 @@ ones-standing m h = ap ones (sym (mod-eq-of-lt h)) ∙ ones-mod 32 m
 
 pub shl-one : (k : ℕ) → k < 32 → 1 * 2 ^ k % 4294967296 ≡ 2 ^ k
 shl-one k h = shl-exact 1 k 32 (lit< tt) (omega arith) ∙ one-mul (2 ^ k)
+
+-- bit k has room above a number below 2 ^ k
+pub bit-fits : (m k : ℕ) → k < 32 → m < 2 ^ k → m + 2 ^ k < 4294967296
+bit-fits m k h g =
+    let e : 2 ^ suc k ≡ 2 ^ k * 2 = pow-suc 2 k in
+    let most : 2 ^ suc k ≤ 4294967296 = pow-mono {i = suc k} {j = 32} h in
+    omega arith
 
 -- a bit that does not stand is 0
 pub bit-zero : (m k : ℕ) → stands m k ≡ false → m / 2 ^ k % 2 ≡ 0
@@ -80,10 +88,10 @@ offset-no m k t =
     let is : standing m (k + 1) ≡ standing m k + m / 2 ^ k % 2 = ap (standing m) (add-one k) ∙ standing-suc m k in
     omega arith
 
--- no bit from 24 on stands in a number below 2 ^ 24
-pub standing-24 : (m : ℕ) → m < 2 ^ 24 → standing m 32 ≡ standing m 24
-standing-24 m h =
-    sym (ones-mod 32 m) ∙ ap ones (mod-eq-of-lt (lt-of-lt-of-le h (lit≤ tt)) ∙ sym (mod-eq-of-lt h)) ∙ ones-mod 24 m
+-- no bit from n on stands in a number below 2 ^ n
+pub standing-below : (m n : ℕ) → n ≤ 32 → m < 2 ^ n → standing m 32 ≡ standing m n
+standing-below m n h g =
+    sym (ones-mod 32 m) ∙ ap ones (mod-eq-of-lt (lt-of-lt-of-le g (pow-mono {i = n} {j = 32} h)) ∙ sym (mod-eq-of-lt g)) ∙ ones-mod n m
 
 -- ---- the map in which chosen bits stand
 module _ (p : ℕ → Bool) where
@@ -114,7 +122,9 @@ module _ (p : ℕ → Bool) where
       ⊎-elim
       (λ e. subst (λ (i : ℕ). mapWith p (suc n) / 2 ^ i % 2 ≡ digit i) (sym e)
       (ap (λ (x : ℕ). x / 2 ^ n % 2) (map-suc n) ∙ ap (λ (x : ℕ). x % 2) (high (digit n) n (map-below n)) ∙ mod-eq-of-lt (digit-small (p n))))
-      (λ l. lower (mapWith p (suc n)) n k l ∙ ap (λ (x : ℕ). x / 2 ^ k % 2) (ap (λ (x : ℕ). x % 2 ^ n) (map-suc n) ∙ low (digit n) n (map-below n)) ∙ map-bit n k l)
+      (λ l.
+      lower (mapWith p (suc n)) n k l
+      ∙ ap (λ (x : ℕ). x / 2 ^ k % 2) (ap (λ (x : ℕ). x % 2 ^ n) (map-suc n) ∙ low (digit n) n (map-below n)) ∙ map-bit n k l)
       (eq-or-lt-of-le (le-of-suc-le-suc h))
     where
       -- a digit below n is one of the n lowest
@@ -130,20 +140,3 @@ module _ (p : ℕ → Bool) where
       test : (t : Bool) → eqb (cond t 1 0) 1 ≡ t
       test true = refl
       test false = refl
-
-  -- a run of bits that stand, and of bits that do not
-  pub map-ones : (a c : ℕ) → ((j : ℕ) → j < c → p (a + j) ≡ true) → mapWith p (a + c) + 2 ^ a ≡ mapWith p a + 2 ^ (a + c)
-  unfolding mapWith
-  map-ones a zero f = rw add-zero
-  map-ones a (suc c) f =
-      let t = f c (lt-suc-self c) in
-      let i = map-ones a c (λ j h. f j (lt-trans h (lt-suc-self c))) in
-      let e : 2 ^ suc (a + c) ≡ 2 ^ (a + c) * 2 = pow-suc 2 (a + c) in
-      rw (add-suc a c, t) (omega arith)
-
-  pub map-none : (a d : ℕ) → ((j : ℕ) → j < d → p (a + j) ≡ false) → mapWith p (a + d) ≡ mapWith p a
-  unfolding mapWith
-  map-none a zero f = rw add-zero
-  map-none a (suc d) f =
-      let t = f d (lt-suc-self d) in
-      rw (add-suc a d, t) (add-zero (mapWith p (a + d)) ∙ map-none a d (λ j h. f j (lt-trans h (lt-suc-self d))))

@@ -1,9 +1,12 @@
 pub mod Bits
 pub mod Digits
-pub mod Known
-pub mod Places
 pub mod Lent
-pub mod Cases
+pub mod Table
+pub mod Places
+pub mod Readings
+pub mod Ignored
 pub mod Writing
 pub mod Passed
+pub mod Writes
 pub mod RoundTrip
+pub mod Laws

@@ -1,60 +1,52 @@
 -- Demand 2: a record that was written is read back, whatever bytes follow. Assumes nothing.
 use mathlib.Core.Path.{_≡_, refl, sym, ap, ap₂, _∙_, subst}
-use mathlib.Core.Bool.{Bool, true, false, cond, not, _&&_}
+use mathlib.Core.Bool.{Bool, true, false, cond, not, _||_}
 use mathlib.Core.List.{List, [], _∷_, _++_, append-assoc, append-nil}
-use Prim.Native.Nat.{ℕ, zero, suc, _+_, _-_, _/_, _%_, _^_, _≤_, _<_}
+use Prim.Native.Nat.{ℕ, zero, suc, _+_, _-_, _/_, _^_, _≤_, _<_}
 use native.Mathlib.Decide.{le-ind, decLt}
-use native.Mathlib.Nat.{le-refl, le-of-lt, lt-of-lt-of-le, mod-eq-of-lt, div-eq-of-lt}
+use native.Mathlib.Nat.{le-refl, le-of-lt, lt-of-lt-of-le, le-antisymm, mod-eq-of-lt, div-eq-of-lt}
 use native.Mathlib.Omega.{arith}
-use borrow.Author.Tests.{eq-eqb, lt-ltb, le-ltb, le-leb}
-use lib.Dec.{ltb, lit<, lit≤}
+use borrow.Author.Tests.{eq-eqb, lt-ltb, le-ltb, le-leb, leb-true}
+use lib.Dec.{leb, ltb, lit≤}
 use lib.IntN.{ℤ, pos, negsuc}
 use lib.ListN.{length, getD, take, drop, replicate, length-append}
 use lib.Seq.{take-suc, take-all, take-at, length-take-le}
-use lib.Signed.{mag}
+use Rattle.arith.specs.Chain.{firstFailing}
+use Rattle.arith.specs.Integer.{inRange}
+use Rattle.arith.proofs.Chain.{both-zero}
 use Rattle.arith.proofs.Test.{clash, both-true, and-true}
 use Rattle.equilibrium.specs.Section.{Counted, counted, layersOf, noLayer}
-use Rattle.equilibrium.specs.Load.{refusalOf}
+use Rattle.equilibrium.specs.Refusals.{sectionTests, loadTests}
 use Rattle.equilibrium.specs.declared.Layer.{Layer}
 use Rattle.equilibrium.specs.declared.Section.{Section}
 use Rattle.equilibrium.specs.declared.Load.{Load}
+use Rattle.record.specs.declared.Written.{Written}
+use Rattle.record.specs.declared.fields.Number.{Number}
+use Rattle.record.specs.declared.fields.Field.{Field}
+use Rattle.record.specs.declared.fields.Field.the-variants.{Must, May, LayerAt, Unused}
 use Rattle.record.specs.Bytes.{numberAt, bytesOf, signed, unsigned}
-use Rattle.record.specs.Map.{stands, offset, recordLength}
-use Rattle.record.specs.Fields.{Number, width, height, fck, fyk, axial, moment, shear, Field, number, fieldOf, bitOf}
-use Rattle.record.specs.Read.{numberOf, layerAt, layersTo, filled, sectionOf, loadOf, known, complete, answered, readOf}
-use Rattle.record.specs.Write.{valueOf, mayMiss, isZero, fieldBytes, writes, mapOf, fieldsTo, fields, recordOf, orElse, writeRefusal, written, writtenOf, bufferOf, changed}
-use Rattle.record.specs.RoundTrip.{cleared, readBack}
-use Rattle.record.proofs.Bits.{bit-zero}
-use Rattle.record.proofs.Cases.{start, chosen}
+use Rattle.record.specs.Map.{stands, offset, recordLength, fieldedTo, onlyFields, completeTo, complete}
+use Rattle.record.specs.Fields.{width, fieldOf, layerBit, hasField, mustStand, isNumber, missing}
+use Rattle.record.specs.Contents.{numberOf, layerAt, layersTo, filled, sectionWith, loadWith, sectionOf, loadOf}
+use Rattle.record.specs.Layout.{valueOf, fieldBytes, writes, mapOf, fieldsTo, fields, recordOf}
+use Rattle.record.specs.Refusals.{mapIn, writeTests}
+use Rattle.record.specs.Read.{readOf}
+use Rattle.record.specs.Write.{writtenBy, changedBy, writtenOf, bufferOf}
+use Rattle.record.specs.RoundTrip.{cleared, readBack, ReadsBack}
 use Rattle.record.proofs.Digits.{length-bytes, read-back, signed-unsigned, unsigned-fits}
-use Rattle.record.proofs.Known.{known-low}
-use Rattle.record.proofs.Passed.{Passed, all-passed}
-use Rattle.record.proofs.Places.{layer-bit, layers-yes, layers-no}
-use Rattle.record.proofs.Writing.{stands-written, map-small, layer-field, length-field, fields-yes, length-fields, length-record}
+use Rattle.record.proofs.Passed.{Machine, Carried, carried}
+use Rattle.record.proofs.Places.{layers-yes, layers-no}
+use Rattle.record.proofs.Readings.{testsOf, chosen}
+use Rattle.record.proofs.Table.{layer-field, within}
+use Rattle.record.proofs.Writes.{write-first}
+use Rattle.record.proofs.Writing.{stands-written, map-small, length-field, fields-yes, length-fields, length-record}
 
--- ---- the table, from a number to its bit and back
-number-field : (x : Number) → fieldOf (bitOf x) ≡ number x
-number-field width = refl
-number-field height = refl
-number-field fck = refl
-number-field fyk = refl
-number-field axial = refl
-number-field moment = refl
-number-field shear = refl
-
-number-low : (x : Number) → bitOf x < 24
-number-low width = lit< tt
-number-low height = lit< tt
-number-low fck = lit< tt
-number-low fyk = lit< tt
-number-low axial = lit< tt
-number-low moment = lit< tt
-number-low shear = lit< tt
-
-is-zero : (z : ℤ) → isZero z ≡ true → z ≡ pos 0
-is-zero (pos zero) e = refl
-is-zero (pos (suc n)) e = absurd (clash e refl)
-is-zero (negsuc n) e = absurd (clash e refl)
+-- a range of one number
+only-one : (d z : ℤ) → inRange d d z ≡ true → d ≡ z
+only-one (pos a) (pos b) e = let t = both-true (leb a b) (leb b a) e in ap pos (le-antisymm (leb-true a b (t .0)) (leb-true b a (t .1)))
+only-one (pos a) (negsuc b) e = absurd (clash e refl)
+only-one (negsuc a) (pos b) e = absurd (clash e refl)
+only-one (negsuc a) (negsuc b) e = let t = both-true (leb b a) (leb a b) e in ap negsuc (le-antisymm (leb-true a b (t .1)) (leb-true b a (t .0)))
 
 abbrev layerOf : ℕ → ℕ → Layer
 layerOf d a = record { depth = d; area = a }
@@ -96,8 +88,11 @@ second ys zs n e a =
       place = length-append (a .front) ys ∙ ap₂ (λ (i j : ℕ). i + j) (a .place) e;
     }
 
--- ---- the record of c and l, and any bytes after it
-module _ (c : Counted) (l : Load) (q : List ℕ) where
+-- ---- the record of s and l, and any bytes after it
+module _ (s : Section) (l : Load) (q : List ℕ) where
+  abbrev c : Counted
+  c = counted s
+
   abbrev M : ℕ
   M = mapOf c l
 
@@ -107,20 +102,20 @@ module _ (c : Counted) (l : Load) (q : List ℕ) where
   abbrev f : ℕ → List ℕ
   f k = fieldBytes c l (fieldOf k)
 
-  map-back : numberAt X 0 4 ≡ M
+  map-back : M ≡ mapIn X
   unfolding recordOf
   map-back =
-      number-at 4 M (record { front = []; rest = fields c l ++ q; is = append-assoc (bytesOf 4 M) (fields c l) q; place = refl })
-      (lt-of-lt-of-le (map-small c l) (lit≤ tt))
+      sym (number-at 4 M (record { front = []; rest = fields c l ++ q; is = append-assoc (bytesOf 4 M) (fields c l) q; place = refl })
+      (lt-of-lt-of-le (map-small c l) (lit≤ tt)))
 
   -- the bytes of a bit that stands are where the reader looks for them
-  field-at : (k : ℕ) → k < 24 → stands M k ≡ true → At X (offset M k) (f k)
+  field-at : (k : ℕ) → k < width → stands M k ≡ true → At X (offset M k) (f k)
   unfolding recordOf fields
   field-at k h t =
-      let o = onward M f (k + 1) 24 (omega arith) in
+      let o = onward M f (k + 1) width (omega arith) in
       let F = fieldsTo M f k in
       let B = bytesOf 4 M in
-      let e : fieldsTo M f 24 ≡ F ++ (f k ++ o .0) = o .1 ∙ ap (λ (l : List ℕ). l ++ o .0) (fields-yes M f k t) ∙ append-assoc F (f k) (o .0) in
+      let e : fieldsTo M f width ≡ F ++ (f k ++ o .0) = o .1 ∙ ap (λ (l : List ℕ). l ++ o .0) (fields-yes M f k t) ∙ append-assoc F (f k) (o .0) in
       record {
         front = B ++ F;
         rest = o .0 ++ q;
@@ -132,68 +127,116 @@ module _ (c : Counted) (l : Load) (q : List ℕ) where
       }
 
   -- a number, written or omitted
-  number-back : (x : Number) → mag (valueOf c l x) < 2 ^ 63 → numberOf X M x ≡ valueOf c l x
-  number-back x h = go (mayMiss x && isZero (valueOf c l x)) refl
+  abbrev valueAt : Field → ℤ
+  valueAt (Must x) = valueOf c l x
+  valueAt (May x d) = valueOf c l x
+  valueAt (LayerAt j) = pos 0
+  valueAt Unused = pos 0
+
+  abbrev readAs : Field → ℕ → ℤ
+  readAs y k = cond (isNumber y) (cond (stands M k) (signed (numberAt X (offset M k) 8)) (missing y)) (pos 0)
+
+  written-back : (k : ℕ) (x : Number) → Carried s l → k < width → stands M k ≡ true → f k ≡ bytesOf 8 (unsigned (valueOf c l x))
+      → signed (numberAt X (offset M k) 8) ≡ valueOf c l x
+  written-back k x ok h s e =
+      let z = valueOf c l x in
+      let a = subst (At X (offset M k)) e (field-at k h s) in
+      ap signed (number-at 8 (unsigned z) a (unsigned-fits z (ok .machine .numbers x))) ∙ signed-unsigned z (ok .machine .numbers x)
+
+  number-back : Carried s l → (k : ℕ) → numberOf X M k ≡ valueAt (fieldOf k)
+  number-back ok k = go (fieldOf k) refl
     where
-      go : (t : Bool) → mayMiss x && isZero (valueOf c l x) ≡ t → numberOf X M x ≡ valueOf c l x
-      go true e =
-          let s : stands M (bitOf x) ≡ false = stands-written c l (bitOf x) (number-low x) ∙ ap (writes c l) (number-field x) ∙ ap not e in
-          rw s (sym (is-zero (valueOf c l x) (both-true (mayMiss x) (isZero (valueOf c l x)) e .1)))
-      go false e =
-          let s : stands M (bitOf x) ≡ true = stands-written c l (bitOf x) (number-low x) ∙ ap (writes c l) (number-field x) ∙ ap not e in
-          let a = subst (λ (y : Field). At X (offset M (bitOf x)) (fieldBytes c l y)) (number-field x) (field-at (bitOf x) (number-low x) s) in
-          rw s (ap signed (number-at 8 (unsigned (valueOf c l x)) a (unsigned-fits (valueOf c l x) h)) ∙ signed-unsigned (valueOf c l x) h)
+      stands-as : (y : Field) → fieldOf k ≡ y → isNumber y ≡ true → (k < width) × (stands M k ≡ writes c l y)
+      stands-as y e n =
+          let h = within k (ap isNumber e ∙ n) in
+          (h, stands-written c l k h ∙ ap (writes c l) e)
+
+      go : (y : Field) → fieldOf k ≡ y → readAs y k ≡ valueAt y
+      go (Must x) e =
+          let s = stands-as (Must x) e refl in
+          rw (s .1) (written-back k x ok (s .0) (s .1) (ap (fieldBytes c l) e))
+      go (May x d) e = may (inRange d d (valueOf c l x)) refl
+        where
+          may : (t : Bool) → inRange d d (valueOf c l x) ≡ t → readAs (May x d) k ≡ valueOf c l x
+          may true t =
+              let s = stands-as (May x d) e refl in
+              rw (s .1 ∙ ap not t) (only-one d (valueOf c l x) t)
+          may false t =
+              let s = stands-as (May x d) e refl in
+              rw (s .1 ∙ ap not t) (written-back k x ok (s .0) (s .1 ∙ ap not t) (ap (fieldBytes c l) e))
+      go (LayerAt j) e = refl
+      go Unused e = refl
 
   -- the layers
-  layer-stands : (j : ℕ) → j < 16 → stands M (8 + j) ≡ ltb j (c .count)
-  layer-stands j h = stands-written c l (8 + j) (omega arith) ∙ ap (writes c l) (layer-field j h)
+  layer-stands : (j : ℕ) → j < 16 → stands M (layerBit j) ≡ ltb j (c .count)
+  layer-stands j h = stands-written c l (layerBit j) (omega arith) ∙ ap (writes c l) (layer-field j h)
 
-  layer-back : (j : ℕ) → j < 16 → stands M (8 + j) ≡ true → Passed c l → layerAt X (offset M (8 + j)) ≡ getD (c .layers) j noLayer
+  layer-back : (j : ℕ) → j < 16 → stands M (layerBit j) ≡ true → Carried s l → layerAt X (offset M (layerBit j)) ≡ getD (c .layers) j noLayer
   layer-back j h t ok =
       let y = getD (c .layers) j noLayer in
       let D = bytesOf 4 (y .depth) in
       let A = bytesOf 4 (y .area) in
-      let a = subst (λ (x : Field). At X (offset M (8 + j)) (fieldBytes c l x)) (layer-field j h) (field-at (8 + j) (omega arith) t) in
-      ap₂ layerOf (number-at 4 (y .depth) (first D A a) (ok .depths j)) (number-at 4 (y .area) (second D A 4 (length-bytes 4 (y .depth)) a) (ok .areas j))
+      let a = subst (λ (x : Field). At X (offset M (layerBit j)) (fieldBytes c l x)) (layer-field j h) (field-at (layerBit j) (omega arith) t) in
+      ap₂ layerOf (number-at 4 (y .depth) (first D A a) (ok .layers j .depth))
+      (number-at 4 (y .area) (second D A 4 (length-bytes 4 (y .depth)) a) (ok .layers j .area))
 
-  layers-back : Passed c l → length (c .layers) ≡ c .count → (j : ℕ) → j ≤ 16 → layersTo X M (8 + j) ≡ take j (c .layers)
+  layers-back : Carried s l → length (c .layers) ≡ c .count → (j : ℕ) → j ≤ 16 → layersTo X M j ≡ take j (c .layers)
   unfolding layersTo
   layers-back ok n zero h = refl
   layers-back ok n (suc j) h = go (layers-back ok n j (le-of-lt h)) (decLt j (c .count))
     where
-      next : 8 + suc j ≡ 8 + j + 1
+      next : suc j ≡ j + 1
       next = omega arith
 
-      is : 8 + j < 24
-      is = omega arith
-
-      go : layersTo X M (8 + j) ≡ take j (c .layers) → Dec (j < c .count) → layersTo X M (8 + suc j) ≡ take (suc j) (c .layers)
+      go : layersTo X M j ≡ take j (c .layers) → Dec (j < c .count) → layersTo X M (suc j) ≡ take (suc j) (c .layers)
       go ih (yes lt) =
-          let t : stands M (8 + j) ≡ true = layer-stands j h ∙ lt-ltb j (c .count) lt in
-          ap (layersTo X M) next ∙ layers-yes X M (8 + j) (layer-bit (8 + j) (omega arith) is) t
+          let t : stands M (layerBit j) ≡ true = layer-stands j h ∙ lt-ltb j (c .count) lt in
+          ap (layersTo X M) next ∙ layers-yes X M j t
           ∙ ap₂ (λ (k : List Layer) (y : Layer). k ++ (y ∷ [])) ih (layer-back j h t ok)
           ∙ sym (take-suc (c .layers) j noLayer (omega arith))
       go ih (no ge) =
-          let t : stands M (8 + j) ≡ false = layer-stands j h ∙ le-ltb j (c .count) (omega arith) in
-          ap (layersTo X M) next ∙ layers-no X M (8 + j) (layer-bit (8 + j) (omega arith) is) t
+          let t : stands M (layerBit j) ≡ false = layer-stands j h ∙ le-ltb j (c .count) (omega arith) in
+          ap (layersTo X M) next ∙ layers-no X M j t
           ∙ ih ∙ take-all j (c .layers) (omega arith) ∙ sym (take-all (suc j) (c .layers) (omega arith))
 
-  -- the tests 20 to 23
-  known-back : known M 32 ≡ true
-  known-back =
-      known-low M (div-eq-of-lt (map-small c l)) ∙ eq-eqb (M / 2 ^ 7 % 2) 0 (bit-zero M 7 (stands-written c l 7 (lit< tt)))
+  -- the tests of the map and the length
+  fielded-back : (k : ℕ) → k ≤ width → fieldedTo M k ≡ true
+  unfolding fieldedTo
+  fielded-back zero h = refl
+  fielded-back (suc k) h = and-true (go (fieldOf k) (stands-written c l k h)) (fielded-back k (le-of-lt h))
+    where
+      go : (y : Field) → stands M k ≡ writes c l y → hasField y || not (stands M k) ≡ true
+      go (Must x) e = refl
+      go (May x d) e = refl
+      go (LayerAt j) e = refl
+      go Unused e = ap not e
+
+  only-fields-back : onlyFields M ≡ true
+  unfolding onlyFields
+  only-fields-back = and-true (eq-eqb (M / 2 ^ width) 0 (div-eq-of-lt (map-small c l))) (fielded-back width (le-refl width))
+
+  complete-to-back : (k : ℕ) → k ≤ width → completeTo M k ≡ true
+  unfolding completeTo
+  complete-to-back zero h = refl
+  complete-to-back (suc k) h = and-true (go (fieldOf k) (stands-written c l k h)) (complete-to-back k (le-of-lt h))
+    where
+      go : (y : Field) → stands M k ≡ writes c l y → not (mustStand y) || stands M k ≡ true
+      go (Must x) e = e
+      go (May x d) e = refl
+      go (LayerAt j) e = refl
+      go Unused e = refl
 
   complete-back : complete M ≡ true
-  complete-back =
-      and-true (stands-written c l 0 (lit< tt)) (and-true (stands-written c l 1 (lit< tt)) (and-true (stands-written c l 2 (lit< tt)) (stands-written c l 3 (lit< tt))))
+  unfolding complete
+  complete-back = complete-to-back width (le-refl width)
 
   long-enough : recordLength M ≤ length X
   long-enough = omega (arith, length-record c l, length-append (recordOf c l) q)
 
 -- ---- the section that is read: what is counted of it is what was written
-module _ (s : Section) (places : length (s .layers) ≡ 16) (few : s .count ≤ 16) where
+module _ (s : Section) (l : Load) (ok : Carried s l) where
   all-counted : length (layersOf s) ≡ s .count
-  all-counted = length-take-le (s .count) (s .layers) (omega arith)
+  all-counted = length-take-le (s .count) (s .layers) (omega (arith, ok .machine .places, ok .few))
 
   same-counted : counted (cleared s) ≡ counted s
   unfolding filled
@@ -201,72 +244,58 @@ module _ (s : Section) (places : length (s .layers) ≡ 16) (few : s .count ≤ 
       ap (λ (ls : List Layer). countedOf ls) (take-at (layersOf s) (replicate (16 - length (layersOf s)) noLayer) (s .count) all-counted)
     where
       countedOf : List Layer → Counted
-      countedOf ls = record { width = s .width; height = s .height; fck = s .fck; fyk = s .fyk; count = s .count; layers = ls }
+      countedOf ls = record { width = s .width; height = s .height; grade = s .grade; count = s .count; layers = ls }
 
-module _ (s : Section) (l : Load) (places : length (s .layers) ≡ 16) (ok : refusalOf (counted s) l ≡ 0) where
-  passed : Passed (counted s) l
-  passed = all-passed s l ok
-
-  abbrev c : Counted
-  c = counted s
-
-  section-back : (q : List ℕ) → sectionOf (X c l q) (M c l q) ≡ cleared s
+  section-back : (q : List ℕ) → cleared s ≡ sectionOf (X s l q) (M s l q)
   unfolding sectionOf
   section-back q =
-      let n = all-counted s places (passed .few) in
-      let ls = layers-back c l q passed n 16 (le-refl 16) ∙ take-all 16 (layersOf s) (omega (arith, n, passed .few)) in
-      let e0 = number-back c l q width (passed .width) in
-      let e1 = number-back c l q height (passed .height) in
-      let e2 = number-back c l q fck (passed .fck) in
-      let e3 = number-back c l q fyk (passed .fyk) in
-      let e4 : length (layersTo (X c l q) (M c l q) 24) ≡ s .count = ap length ls ∙ n in
-      let e5 : filled (layersTo (X c l q) (M c l q) 24) ≡ filled (layersOf s) = ap filled ls in
-      λ i. record { width = e0 i; height = e1 i; fck = e2 i; fyk = e3 i; count = e4 i; layers = e5 i }
+      let ls = layers-back s l q ok all-counted 16 (le-refl 16) ∙ take-all 16 (layersOf s) (omega (arith, all-counted, ok .few)) in
+      sym ((λ i. sectionWith (λ k. number-back s l q ok k i) (ls i)) ∙ ap (λ (n : ℕ). withCount n) all-counted)
+    where
+      withCount : ℕ → Section
+      withCount n = record { layers = filled (layersOf s); width = s .width; height = s .height; grade = s .grade; count = n }
 
-  load-back : (q : List ℕ) → loadOf (X c l q) (M c l q) ≡ l
+  load-back : (q : List ℕ) → l ≡ loadOf (X s l q) (M s l q)
   unfolding loadOf
-  load-back q =
-      let e0 = number-back c l q axial (passed .n) in
-      let e1 = number-back c l q moment (passed .m) in
-      let e2 = number-back c l q shear (passed .v) in
-      λ i. record { n = e0 i; m = e1 i; v = e2 i }
+  load-back q = sym (λ i. loadWith (λ k. number-back s l q ok k i))
 
-  -- a record, and any bytes after it
-  pub record-back : (q : List ℕ) → readOf (recordOf (counted s) l ++ q) ≡ readBack s l (recordLength (mapOf (counted s) l))
-  record-back q =
-      let m = M c l q in
-      let xs = X c l q in
-      let four : 4 ≤ length xs = omega (arith, long-enough c l q) in
-      let r : refusalOf (counted (sectionOf xs m)) (loadOf xs m) ≡ 0 =
-      ap₂ (λ (t : Section) (k : Load). refusalOf (counted t) k) (section-back q) (load-back q)
-      ∙ ap (λ (d : Counted). refusalOf d l) (same-counted s places (passed .few)) ∙ ok in
-      sym (start xs m four (sym (map-back c l q)))
-      ∙ sym (chosen xs m true true true 0 (known-back c l q) (le-leb (recordLength m) (length xs) (long-enough c l q)) (complete-back c l q) r)
-      ∙ ap₂ (λ (t : Section) (k : Load). answered (recordLength m) t k 0) (section-back q) (load-back q)
+-- a record, and any bytes after it
+pub record-back : (s : Section) (l : Load) (q : List ℕ) → Machine s l → testsOf s l ≡ 0
+    → readBack s l (recordLength (mapOf (counted s) l)) ≡ readOf (recordOf (counted s) l ++ q)
+record-back s l q machine passed =
+    let ok = carried s l machine passed in
+    let m = M s l q in
+    let xs = X s l q in
+    let long = long-enough s l q in
+    let r = sym passed ∙ ap (λ (d : Counted). firstFailing (sectionTests d ++ loadTests l)) (sym (same-counted s l ok)) in
+    chosen xs true true true true 0 (map-back s l q) (section-back s l ok q) (load-back s l ok q)
+    (sym (le-leb 4 (length xs) (omega arith))) (sym (only-fields-back s l q)) (sym (le-leb (recordLength m) (length xs) long)) (sym (complete-back s l q)) r
 
 -- the buffer of a write that was accepted, read afterwards
-pub round-trip : (s : Section) (l : Load) (buf : List ℕ) → length (s .layers) ≡ 16 → writtenOf (counted s) l buf .refusal ≡ 0
-    → readOf (bufferOf (counted s) l buf) ≡ readBack s l (writtenOf (counted s) l buf .length)
-unfolding writeRefusal
-round-trip s l buf places w =
+round-trip : (s : Section) (l : Load) (buf : List ℕ) → Machine s l → (k : ℕ) → firstFailing (writeTests (counted s) l buf) ≡ k
+    → ReadsBack s l (writtenBy (recordLength (mapOf (counted s) l)) k) (changedBy (recordOf (counted s) l) buf k)
+round-trip s l buf machine (suc k) e z = absurd (omega arith)
+round-trip s l buf machine zero e z =
     let c = counted s in
-    let r : writeRefusal c l buf ≡ 0 = refusal-is (recordLength (mapOf c l)) (writeRefusal c l buf) ∙ w in
-    ap (λ (k : ℕ). readOf (changed (recordOf c l) buf k)) r
-    ∙ record-back s l places (tests-first (refusalOf c l) _ r) (drop (length (recordOf c l)) buf)
-    ∙ ap (λ (k : ℕ). readBack s l (written (recordLength (mapOf c l)) k .length)) (sym r)
-  where
-    refusal-is : (n k : ℕ) → k ≡ written n k .refusal
-    refusal-is n zero = refl
-    refusal-is n (suc k) = refl
+    sym (record-back s l (drop (length (recordOf c l)) buf) machine (both-zero (testsOf s l) _ (sym (write-first c l buf) ∙ e) .0))
 
-    tests-first : (k rest : ℕ) → orElse k rest ≡ 0 → k ≡ 0
-    tests-first zero rest e = refl
-    tests-first (suc k) rest e = e
+written-refusal : (n k : ℕ) → writtenBy n k .refusal ≡ k
+written-refusal n zero = refl
+written-refusal n (suc k) = refl
 
--- sections that differ only beyond the count are written alike
-pub written-alike : (s t : Section) (l : Load) (buf : List ℕ)
-    → s .width ≡ t .width → s .height ≡ t .height → s .fck ≡ t .fck → s .fyk ≡ t .fyk → s .count ≡ t .count → layersOf s ≡ layersOf t
-    → (writtenOf (counted s) l buf ≡ writtenOf (counted t) l buf) × (bufferOf (counted s) l buf ≡ bufferOf (counted t) l buf)
-written-alike s t l buf e0 e1 e2 e3 e4 e5 =
-    let e : counted s ≡ counted t = λ i. record { width = e0 i; height = e1 i; fck = e2 i; fyk = e3 i; count = e4 i; layers = e5 i } in
-    (ap (λ (c : Counted). writtenOf c l buf) e, ap (λ (c : Counted). bufferOf c l buf) e)
+-- the other clauses of `write` follow from its first two
+pub write-clauses : (s : Section) (l : Load) (buf : List ℕ) {r : Written} {after : List ℕ} → Machine s l
+    → r ≡ writtenOf (counted s) l buf → after ≡ bufferOf (counted s) l buf
+    → (r ≡ writtenOf (counted s) l buf)
+    × ((after ≡ bufferOf (counted s) l buf) × ((r .refusal ≡ firstFailing (writeTests (counted s) l buf)) × ReadsBack s l r after))
+write-clauses s l buf machine e g =
+    let k = firstFailing (writeTests (counted s) l buf) in (
+      e,
+      (
+        g,
+        (
+          ap (λ (r : Written). r .refusal) e ∙ written-refusal (recordLength (mapOf (counted s) l)) k,
+          rw (e, g) (round-trip s l buf machine k refl),
+        ),
+      ),
+    )

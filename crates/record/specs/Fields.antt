@@ -1,44 +1,60 @@
 -- The table of fields, from which reading and writing are both defined: document 01, "The record". Assumes nothing.
-use Prim.Native.Nat.{ℕ, suc}
+use Prim.Native.Nat.{ℕ, _+_}
+use mathlib.Core.Bool.{Bool, true, false}
 use mathlib.Core.List.{List, [], _∷_}
-use mathlib.Core.Logic.{ite}
-use lib.ListN.{getD}
+use lib.IntN.{ℤ, pos}
+use lib.ListN.{length, getD}
+use Rattle.record.specs.declared.fields.Number.the-variants.{Width, Height, Fck, Fyk, Axial, Moment, Shear}
+use Rattle.record.specs.declared.fields.Field.{Field}
+use Rattle.record.specs.declared.fields.Field.the-variants.{Must, May, LayerAt, Unused}
 
--- the fields that are signed numbers: 01's b, h, fck, fyk, N, M and V
-pub data Number : Type 0 where
-  width : Number
-  height : Number
-  fck : Number
-  fyk : Number
-  axial : Number
-  moment : Number
-  shear : Number
-  deriving Discrete as same
-
--- a number; the layer at a place, from 0; or no field
-pub data Field : Type 0 where
-  number : Number → Field
-  layer : ℕ → Field
-  none : Field
-
--- THE TABLE, from bit 0 on. Bits 0 to 6: b, h, fck, fyk, N, M, V. Bits 8 to 23: layers.
+-- THE TABLE, from bit 0 on
 abbrev pub table : List Field
 table =
-    number width ∷ number height ∷ number fck ∷ number fyk ∷ number axial ∷ number moment ∷ number shear ∷ none
-    ∷ layer 0 ∷ layer 1 ∷ layer 2 ∷ layer 3 ∷ layer 4 ∷ layer 5 ∷ layer 6 ∷ layer 7
-    ∷ layer 8 ∷ layer 9 ∷ layer 10 ∷ layer 11 ∷ layer 12 ∷ layer 13 ∷ layer 14 ∷ layer 15
+    -- b, h, fck and fyk must stand
+    Must Width ∷ Must Height ∷ Must Fck ∷ Must Fyk
+    -- N, M or V may be missing and is then 0
+    ∷ May Axial (pos 0) ∷ May Moment (pos 0) ∷ May Shear (pos 0)
+    -- bit 7
+    ∷ Unused
+    -- bits 8 to 23: layers
+    ∷ LayerAt 0 ∷ LayerAt 1 ∷ LayerAt 2 ∷ LayerAt 3 ∷ LayerAt 4 ∷ LayerAt 5 ∷ LayerAt 6 ∷ LayerAt 7
+    ∷ LayerAt 8 ∷ LayerAt 9 ∷ LayerAt 10 ∷ LayerAt 11 ∷ LayerAt 12 ∷ LayerAt 13 ∷ LayerAt 14 ∷ LayerAt 15
     ∷ []
 
--- the field of bit k; beyond the table there is none
+-- how many bits it names; no bit from there on has a field
+abbrev pub width : ℕ
+width = length table
+
+-- the field of bit k
 abbrev pub fieldOf : ℕ → Field
-fieldOf k = getD table k none
+fieldOf k = getD table k Unused
 
--- the bit of a number: its place in the table
-abbrev pub place : Number → List Field → ℕ
-place x [] = 0
-place x (number y ∷ fs) = ite (same x y) 0 (suc (place x fs))
-place x (layer j ∷ fs) = suc (place x fs)
-place x (none ∷ fs) = suc (place x fs)
+-- the bit of the layer at a place, from 0
+abbrev pub layerBit : ℕ → ℕ
+layerBit j = 8 + j
 
-abbrev pub bitOf : Number → ℕ
-bitOf x = place x table
+abbrev pub hasField : Field → Bool
+hasField (Must x) = true
+hasField (May x d) = true
+hasField (LayerAt j) = true
+hasField Unused = false
+
+abbrev pub mustStand : Field → Bool
+mustStand (Must x) = true
+mustStand (May x d) = false
+mustStand (LayerAt j) = false
+mustStand Unused = false
+
+abbrev pub isNumber : Field → Bool
+isNumber (Must x) = true
+isNumber (May x d) = true
+isNumber (LayerAt j) = false
+isNumber Unused = false
+
+-- what a number is where its bit does not stand
+abbrev pub missing : Field → ℤ
+missing (Must x) = pos 0
+missing (May x d) = d
+missing (LayerAt j) = pos 0
+missing Unused = pos 0

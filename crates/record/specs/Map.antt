@@ -1,7 +1,8 @@
 -- The bit map: document 01, "The record". Assumes nothing.
 use Prim.Native.Nat.{ℕ, zero, suc, _+_, _*_, _/_, _%_, _^_}
-use mathlib.Core.Bool.{Bool, cond}
+use mathlib.Core.Bool.{Bool, true, cond, not, _&&_, _||_}
 use lib.Dec.{eqb}
+use Rattle.record.specs.Fields.{width, fieldOf, hasField, mustStand}
 
 -- does bit k of the map m stand?
 abbrev pub stands : ℕ → ℕ → Bool
@@ -24,3 +25,21 @@ recordLength m = 4 + 8 * standing m 32
 unfoldable pub mapWith : (ℕ → Bool) → ℕ → ℕ
 mapWith p zero = 0
 mapWith p (suc k) = mapWith p k + cond (p k) (2 ^ k) 0
+
+-- every bit below k that stands has a field
+unfoldable pub fieldedTo : ℕ → ℕ → Bool
+fieldedTo m zero = true
+fieldedTo m (suc k) = (hasField (fieldOf k) || not (stands m k)) && fieldedTo m k
+
+-- only bits stand that have a field: no bit from the table's width on, and of its own none that has no field
+unfoldable pub onlyFields : ℕ → Bool
+onlyFields m = eqb (m / 2 ^ width) 0 && fieldedTo m width
+
+-- the bits below k that must stand do
+unfoldable pub completeTo : ℕ → ℕ → Bool
+completeTo m zero = true
+completeTo m (suc k) = (not (mustStand (fieldOf k)) || stands m k) && completeTo m k
+
+-- bits 0 to 3 must stand
+unfoldable pub complete : ℕ → Bool
+complete m = completeTo m width

@@ -1,7 +1,9 @@
 // Records: document 01, "The record". A section and its load as bytes, read and written.
 mod bytes;
+mod fields;
 mod map;
 pub mod reader;
+mod refusals;
 pub mod writer;
 
 use equilibrium::Load;
@@ -10,7 +12,7 @@ use equilibrium::Section;
 // What is read: refusal 0 with the record's length, section and load; or the refusal with zeros, and the length where one is named.
 #[repr(C)]
 pub struct Reading {
-    pub refusal: u8,
+    pub refusal: u64,
     pub length: usize,
     pub section: Section,
     pub load: Load,
@@ -19,6 +21,6 @@ pub struct Reading {
 // What is answered of a write: refusal 0 and the record's length; or the refusal and 0.
 #[repr(C)]
 pub struct Written {
-    pub refusal: u8,
+    pub refusal: u64,
     pub length: usize,
 }

@@ -1,8 +1,9 @@
 // The map of a record: its bits, and what follows from how many of them stand.
+use super::fields::WIDTH;
+use arith::both;
 ghost use mathlib.Core.Path.{_≡_};
 ghost use Prim.Native.Nat.{_<_};
-ghost use Rattle.record.specs.Map.{stands, offset, recordLength};
-ghost use Rattle.record.specs.Read.{known, complete};
+ghost use Rattle.record.specs.Map.{stands, offset, recordLength, onlyFields, complete};
 
 // The length of a record with this map: 4 bytes, and 8 for each bit that stands.
 pub fn record_length(map: u32) -> usize
@@ -26,20 +27,17 @@ pub fn bit_stands(map: u32, k: u32) -> bool
     (map >> k) % 2 == 1
 }
 
-// Has every bit that stands a field? Not so where bit 7 or one of 24 to 31 does: test 21.
-pub fn all_known(map: u32) -> bool
-    ensures { λ r. ⌜ r ≡ known map 32 ⌝ }
+// Has every bit that stands a field? No bit from the table's width on has one, and of the table's own bits not bit 7: test 21.
+pub fn only_fields(map: u32) -> bool
+    ensures { λ r. ⌜ r ≡ onlyFields map ⌝ }
 {
-    if map / 16777216 == 0 {
-        map / 128 % 2 == 0
-    } else {
-        false
-    }
+    both(map >> WIDTH == 0, !bit_stands(map, 7))
 }
 
-// Do bits 0 to 3 stand? Test 23.
+// Do the fields stand that must? Test 23.
 pub fn is_complete(map: u32) -> bool
     ensures { λ r. ⌜ r ≡ complete map ⌝ }
 {
-    map % 16 == 15
+    let low = both(bit_stands(map, 1), bit_stands(map, 0));
+    both(bit_stands(map, 3), both(bit_stands(map, 2), low))
 }

@@ -2,30 +2,41 @@
 use super::Reading;
 use super::bytes::big_endian;
 use super::bytes::to_signed;
-use super::map::all_known;
+use super::fields::field_of;
+use super::fields::missing_value;
 use super::map::bit_stands;
 use super::map::field_offset;
 use super::map::is_complete;
+use super::map::only_fields;
 use super::map::record_length;
+use super::refusals::first_of;
 use equilibrium::Layer;
 use equilibrium::Load;
 use equilibrium::Section;
+use equilibrium::refusals::load_refusal;
+use equilibrium::refusals::section_refusal;
+use materials::Grade;
+ghost use mathlib.Core.Bool.{true};
 ghost use mathlib.Core.Path.{_≡_};
 ghost use Prim.Native.Nat.{_+_, _<_, _≤_};
 ghost use lib.ListN.{length};
+ghost use Rattle.arith.specs.Chain.{firstFailing};
+ghost use Rattle.record.specs.Fields.{fieldOf, isNumber};
 ghost use Rattle.record.specs.Map.{recordLength};
-ghost use Rattle.record.specs.Read.{signedOf, layerAt, layersIn, filled, sectionOf, loadOf, refused, readOf};
+ghost use Rattle.record.specs.Contents.{numberOf, layerAt, layersIn, filled, sectionOf, loadOf};
+ghost use Rattle.record.specs.Refusals.{readTests};
+ghost use Rattle.record.specs.Read.{refusedReading, readOf, RestIgnored};
 
-// The number of bit k, or 0 where the bit does not stand.
+// The number of bit k, or what it is where the bit does not stand.
 fn number(s: &[u8], map: u32, k: u32) -> i64
-    requires { ⌜ (k < 32) × (recordLength map ≤ length (now s)) ⌝ }
-    ensures { λ r. ⌜ r ≡ signedOf (now (s .entry)) map k ⌝ }
+    requires { ⌜ (isNumber (fieldOf k) ≡ true) × (k < 32) × (recordLength map ≤ length (now s)) ⌝ }
+    ensures { λ r. ⌜ r ≡ numberOf (now (s .entry)) map k ⌝ }
 {
     if bit_stands(map, k) {
         let at = field_offset(map, k);
         to_signed(big_endian(s, at, 8))
     } else {
-        0
+        missing_value(field_of(k))
     }
 }
 
@@ -45,21 +56,22 @@ struct Layers {
     places: [Layer; 16],
 }
 
-// The layers, by rising bit.
+// The layers, by rising bit: the place j has bit 8 + j.
 fn all_layers(s: &[u8], map: u32) -> Layers
     requires { ⌜ recordLength map ≤ length (now s) ⌝ }
     ensures { λ r. ⌜ (r .count ≡ length (layersIn (now (s .entry)) map)) × (r .places ≡ filled (layersIn (now (s .entry)) map)) ⌝ }
 {
     let mut places = [Layer { depth: 0, area: 0 }; 16];
     let mut count = 0usize;
-    let mut k = 8u32;
-    while k < 24 {
+    let mut j = 0u32;
+    while j < 16 {
+        let k = 8 + j;
         if bit_stands(map, k) {
             let at = field_offset(map, k);
             places[count] = layer(s, at);
             count += 1;
         }
-        k += 1;
+        j += 1;
     }
     Layers {
         count: count,
@@ -74,12 +86,14 @@ fn section_of(s: &[u8], map: u32) -> Section
     let l = all_layers(s, map);
     let places = l.places;
     Section {
+        layers: places,
         width: number(s, map, 0),
         height: number(s, map, 1),
-        fck: number(s, map, 2),
-        fyk: number(s, map, 3),
+        grade: Grade {
+            fck: number(s, map, 2),
+            fyk: number(s, map, 3),
+        },
         count: l.count,
-        layers: places,
     }
 }
 
@@ -94,18 +108,17 @@ fn load_of(s: &[u8], map: u32) -> Load
     }
 }
 
-// A refusal with the length that it names.
-fn refuse(number: u8, bytes: usize) -> Reading
-    ensures { λ r. ⌜ r ≡ refused number bytes ⌝ }
+// A refusal with the length that it names, and zeros.
+fn refuse(number: u64, bytes: usize) -> Reading
+    ensures { λ r. ⌜ r ≡ refusedReading number bytes ⌝ }
 {
     let layers = [Layer { depth: 0, area: 0 }; 16];
     let section = Section {
+        layers: layers,
         width: 0,
         height: 0,
-        fck: 0,
-        fyk: 0,
+        grade: Grade { fck: 0, fyk: 0 },
         count: 0,
-        layers: layers,
     };
     let load = Load { n: 0, m: 0, v: 0 };
     Reading {
@@ -116,15 +129,17 @@ fn refuse(number: u8, bytes: usize) -> Reading
     }
 }
 
-// The record that the bytes begin with, or why there is none: 20, 21, 22, 23, then 1 to 10.
+// The record that the bytes begin with, or why there is none: 20, 21, 22, 23, then the section tests and the load tests.
 pub fn read(bytes: &[u8]) -> Reading
     ensures { λ r. ⌜ r ≡ readOf (now (bytes .entry)) ⌝ }
+    ensures refusal { λ r. ⌜ r .refusal ≡ firstFailing (readTests (now (bytes .entry))) ⌝ }
+    ensures rest_ignored { λ r. ⌜ RestIgnored (now (bytes .entry)) r ⌝ }
 {
     if bytes.len() < 4 {
         return refuse(20, 0);
     }
     let map = big_endian(bytes, 0, 4) as u32;
-    if !all_known(map) {
+    if !only_fields(map) {
         return refuse(21, 0);
     }
     let length = record_length(map);
@@ -136,9 +151,9 @@ pub fn read(bytes: &[u8]) -> Reading
     }
     let section = section_of(bytes, map);
     let load = load_of(bytes, map);
-    let k = equilibrium::tests::refusal(section, load);
+    let k = first_of(section_refusal(section), load_refusal(load));
     if k != 0 {
-        return refuse(k, length);
+        return refuse(k as u64, length);
     }
     Reading {
         refusal: 0,

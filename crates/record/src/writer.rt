@@ -2,52 +2,55 @@
 use super::Written;
 use super::bytes::put_big_endian;
 use super::bytes::to_unsigned;
+use super::fields::Field;
+use super::fields::Number;
+use super::fields::WIDTH;
+use super::fields::field_of;
 use super::map::bit_stands;
 use super::map::record_length;
+use super::refusals::first_of;
 use equilibrium::Load;
 use equilibrium::Section;
-ghost use mathlib.Core.Bool.{true, cond};
+use equilibrium::refusals::layer_at;
+use equilibrium::refusals::load_refusal;
+use equilibrium::refusals::section_refusal;
+ghost use mathlib.Core.Bool.{true};
 ghost use mathlib.Core.Path.{_≡_};
 ghost use Prim.Native.Nat.{_<_, _≤_};
 ghost use lib.ListN.{length, getD};
+ghost use Rattle.arith.specs.Chain.{firstFailing};
 ghost use Rattle.equilibrium.specs.Section.{layersOf, counted, noLayer};
-ghost use Rattle.record.specs.Bytes.{bytesOf, placed, unsigned};
+ghost use Rattle.record.specs.Bytes.{bytesOf, placed};
 ghost use Rattle.record.specs.Map.{recordLength};
-ghost use Rattle.record.specs.Fields.{fieldOf};
-ghost use Rattle.record.specs.Write.{isZero, layerBytes, fieldBytes, writes, mapOf, fields, writtenOf, bufferOf};
+ghost use Rattle.record.specs.Layout.{valueOf, layerBytes, fieldBytes, writes, mapOf, fields};
+ghost use Rattle.record.specs.Refusals.{writeTests};
+ghost use Rattle.record.specs.Write.{writtenOf, bufferOf};
+ghost use Rattle.record.specs.RoundTrip.{ReadsBack};
 
-// The bit of a load: the writer omits a zero.
-fn load_bit(z: i64, bit: u32) -> u32
-    ensures { λ r. ⌜ r ≡ cond (isZero z) 0 bit ⌝ }
+// The number of that name.
+fn number_of(s: Section, l: Load, x: Number) -> i64
+    ensures { λ r. ⌜ r ≡ valueOf (counted s) l x ⌝ }
 {
-    if z == 0 { 0 } else { bit }
+    match x {
+        Number::Width => s.width,
+        Number::Height => s.height,
+        Number::Fck => s.grade.fck,
+        Number::Fyk => s.grade.fyk,
+        Number::Axial => l.n,
+        Number::Moment => l.m,
+        Number::Shear => l.v,
+    }
 }
 
-// The map: b, h, fck and fyk, the loads that are not 0, and the lowest layer bits.
-fn map_of(s: Section, l: Load) -> u32
-    requires { ⌜ s .count ≤ 16 ⌝ }
-    ensures { λ r. ⌜ r ≡ mapOf (counted s) l ⌝ }
+// Is a field written? A number not where it is what a missing one is; a layer where it is counted.
+fn is_written(s: Section, l: Load, f: Field) -> bool
+    ensures { λ r. ⌜ r ≡ writes (counted s) l f ⌝ }
 {
-    let n = load_bit(l.n, 16);
-    let m = load_bit(l.m, 32);
-    let v = load_bit(l.v, 64);
-    let count = s.count;
-    15 + n + m + v + ((1u32 << count) - 1) * 256
-}
-
-// The number of bit k.
-fn number_at(s: Section, l: Load, k: u32) -> i64
-    requires { ⌜ k < 7 ⌝ }
-    ensures { λ r. ⌜ bytesOf 8 (unsigned r) ≡ fieldBytes (counted s) l (fieldOf k) ⌝ }
-{
-    match k {
-        0 => s.width,
-        1 => s.height,
-        2 => s.fck,
-        3 => s.fyk,
-        4 => l.n,
-        5 => l.m,
-        _ => l.v,
+    match f {
+        Field::Must(_) => true,
+        Field::May(x, d) => !arith::in_range(d, d, number_of(s, l, x)),
+        Field::LayerAt(i) => i < s.count,
+        Field::Unused => false,
     }
 }
 
@@ -56,21 +59,36 @@ fn layer_value(s: Section, i: usize) -> u64
     requires { ⌜ (i < s .count) × (s .count ≤ 16) ⌝ }
     ensures { λ r. ⌜ bytesOf 8 r ≡ layerBytes (getD (layersOf s) i noLayer) ⌝ }
 {
-    let y = equilibrium::tests::layer_at(s, i);
+    let y = layer_at(s, i);
     (y.depth as u64) * 4294967296 + y.area as u64
 }
 
-// The eight bytes of a bit that is written, as one number.
-fn field_value(s: Section, l: Load, k: u32) -> u64
-    requires { ⌜ (k < 24) × (s .count ≤ 16) × (writes (counted s) l (fieldOf k) ≡ true) ⌝ }
-    ensures { λ r. ⌜ bytesOf 8 r ≡ fieldBytes (counted s) l (fieldOf k) ⌝ }
+// The eight bytes of a field that is written, as one number.
+fn field_value(s: Section, l: Load, f: Field) -> u64
+    requires { ⌜ (s .count ≤ 16) × (writes (counted s) l f ≡ true) ⌝ }
+    ensures { λ r. ⌜ bytesOf 8 r ≡ fieldBytes (counted s) l f ⌝ }
 {
-    if k < 7 {
-        to_unsigned(number_at(s, l, k))
-    } else {
-        let i = (k - 8) as usize;
-        layer_value(s, i)
+    match f {
+        Field::Must(x) => to_unsigned(number_of(s, l, x)),
+        Field::May(x, _) => to_unsigned(number_of(s, l, x)),
+        Field::LayerAt(i) => layer_value(s, i),
+        Field::Unused => 0,
     }
+}
+
+// The map: the bits of the fields that are written.
+fn map_of(s: Section, l: Load) -> u32
+    ensures { λ r. ⌜ r ≡ mapOf (counted s) l ⌝ }
+{
+    let mut map = 0u32;
+    let mut k = 0u32;
+    while k < WIDTH {
+        if is_written(s, l, field_of(k)) {
+            map += 1u32 << k;
+        }
+        k += 1;
+    }
+    map
 }
 
 // The fields, lowest bit first, after the four bytes of the map.
@@ -80,24 +98,26 @@ fn put_fields(s: Section, l: Load, map: u32, buf: &mut [u8])
 {
     let mut at = 4usize;
     let mut k = 0u32;
-    while k < 24 {
+    while k < WIDTH {
         if bit_stands(map, k) {
-            put_big_endian(buf, at, 8, field_value(s, l, k));
+            put_big_endian(buf, at, 8, field_value(s, l, field_of(k)));
             at += 8;
         }
         k += 1;
     }
 }
 
-// The record at the start of the buffer; or the refusal, 1 to 10, then 25, and no byte changed.
+// The record at the start of the buffer; or the refusal, the section tests, the load tests, then 25, and no byte changed.
 pub fn write(s: Section, l: Load, buf: &mut [u8]) -> Written
     ensures { λ r. ⌜ r ≡ writtenOf (counted s) l (now (buf .entry)) ⌝ }
     ensures lent { λ _. ⌜ now (buf .exit) ≡ bufferOf (counted s) l (now (buf .entry)) ⌝ }
+    ensures refusal { λ r. ⌜ r .refusal ≡ firstFailing (writeTests (counted s) l (now (buf .entry))) ⌝ }
+    ensures round_trip { λ r. ⌜ ReadsBack s l r (now (buf .exit)) ⌝ }
 {
-    let k = equilibrium::tests::refusal(s, l);
+    let k = first_of(section_refusal(s), load_refusal(l));
     if k != 0 {
         return Written {
-            refusal: k,
+            refusal: k as u64,
             length: 0,
         };
     }

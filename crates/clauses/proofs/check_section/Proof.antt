@@ -1,14 +1,10 @@
 -- `clauses::check_section` meets its contract: the equation by the arms of the code, and the accuracy from it. Assumes nothing.
-use mathlib.Core.Bool.{true, false}
 use mathlib.Core.Path.{_≡_, sym, _∙_}
-use lib.Dec.{eqb}
-use borrow.Author.Tests.{eq-eqb, ne-eqb}
 use Rattle.equilibrium.specs.declared.Accepted.the-variants.{Ready}
-use Rattle.equilibrium.specs.Section.{counted, accepted}
-use Rattle.equilibrium.specs.Load.{loadRefusal}
+use Rattle.equilibrium.specs.Section.{counted}
+use Rattle.equilibrium.specs.Refusals.{accepted}
 use Rattle.equilibrium.proofs.Usable.{usable-by, load-ok}
-use Rattle.clauses.specs.Check.{checkIn}
-use Rattle.clauses.proofs.Checking.{both-clauses}
+use Rattle.clauses.proofs.Checking.{check-refused, load-refused, load-passed, check-clauses}
 use borrow.Author.Needs.{needs}
 use Rattle.clauses.proofs.check_section.Statement.{statement}
 use Rattle.clauses.proofs.check_section.Tie as tie
@@ -36,26 +32,22 @@ check-accepted-requires c κs =
     (usable-by (a .s) (ready x), load-ok (a .l) (sym (c .before .load-refusal .ensures) ∙ c .if1 .taken))
 
 returns : tie.Need-returns
-unfolding checkIn
 returns c =
     let a = c .before .before .before .before .args in
-    both-clauses (a .s) (a .l) (simp (sym (c .before .before .before .accept .ensures .0) ∙ c .before .k .given .1))
+    check-clauses (a .s) (a .l) (check-refused (a .s) (a .l) (sym (c .before .before .before .accept .ensures .0) ∙ c .before .k .given .1))
 
 returns-2 : tie.Need-returns-2
-unfolding checkIn
 returns-2 c =
     let x = c .before .before .before .before in
     let a = x .before .before .before .args in
-    let zero : eqb (loadRefusal (a .l)) 0 ≡ true = eq-eqb (loadRefusal (a .l)) 0 (sym (c .before .before .load-refusal .ensures) ∙ c .before .if1 .taken) in
-    both-clauses (a .s) (a .l) (simp (ready x, zero, c .check-accepted .ensures))
+    let none = sym (c .before .before .load-refusal .ensures) ∙ c .before .if1 .taken in
+    check-clauses (a .s) (a .l) (c .check-accepted .ensures ∙ load-passed (a .s) (a .l) (ready x) none)
 
 returns-3 : tie.Need-returns-3
-unfolding checkIn
 returns-3 c =
     let x = c .before .before .before in
     let a = x .before .before .before .args in
-    let some : eqb (loadRefusal (a .l)) 0 ≡ false = ne-eqb (loadRefusal (a .l)) 0 (λ e. c .if1 .left (c .before .load-refusal .ensures ∙ e)) in
-    both-clauses (a .s) (a .l) (simp (ready x, some, c .before .load-refusal .ensures))
+    check-clauses (a .s) (a .l) (load-refused (a .s) (a .l) (c .before .load-refusal .result) (ready x) (c .before .load-refusal .ensures) (c .if1 .left))
 
 pub check-section-spec : {M : Type 1} → statement M
 check-section-spec =

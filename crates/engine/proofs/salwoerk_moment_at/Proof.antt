@@ -18,10 +18,12 @@ cast-t7 : tie.Need-cast-t7
 cast-t7 c = search needs
 
 returns : tie.Need-returns
-returns c = simp (sym (c .before .before .before .moment-at .ensures) ∙ c .before .m .given .1, field (c .before .m .given .0 .0) (c .known-told .given .0 .1))
+returns c =
+    let is = sym (c .before .before .before .moment-at .ensures .0) ∙ c .before .m .given .1 in
+    simp (is, field (c .before .m .given .0 .0) (c .known-told .given .0 .1))
 
 returns-2 : tie.Need-returns-2
-returns-2 c = simp (sym (c .before .before .before .moment-at .ensures) ∙ c .before .k .given .1)
+returns-2 c = simp (sym (c .before .before .before .moment-at .ensures .0) ∙ c .before .k .given .1)
 
 pub salwoerk-moment-at-spec : {M : Type 1} → statement M
 salwoerk-moment-at-spec =

@@ -16,7 +16,9 @@ steel-strength-requires : tie.Need-steel-strength-requires
 steel-strength-requires c κs = search needs
 
 returns : tie.Need-returns
-returns c = simp (c .before .before .before .block-depth .ensures, c .before .before .block-strength .ensures, c .before .concrete-strength .ensures, c .steel-strength .ensures)
+returns c =
+    let d = c .before .before .before in
+    simp (d .block-depth .ensures, c .before .before .block-strength .ensures, c .before .concrete-strength .ensures, c .steel-strength .ensures)
 
 pub design-values-spec : {M : Type 1} → statement M
 design-values-spec =

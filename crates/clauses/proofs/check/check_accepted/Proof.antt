@@ -1,46 +1,83 @@
--- `clauses::check::check_accepted` meets its contract. Assumes nothing.
-use mathlib.Core.Bool.{Bool}
-use mathlib.Core.Path.{_≡_, sym, ap, subst, _∙_}
-use Prim.Native.Nat.{_^_, _<_}
-use lib.IntN.{ℤ, pos}
-use lib.Signed.{mag, leZ}
-use mir.Syntax.{w64}
-use mir.Val.{toZ, ofZ}
-use Rattle.arith.proofs.Machine.{field}
-use Rattle.equilibrium.specs.declared.Section.{Section}
-use Rattle.equilibrium.specs.Section.{layersOf}
-use Rattle.equilibrium.specs.Usable.{Usable}
-use Rattle.equilibrium.proofs.Turned.{turned-layers, usable-turned}
+-- `clauses::check::check_accepted` meets its contract: the columns hold the layers as the compressed face sees them. Assumes nothing.
+use mathlib.Core.Bool.{Bool, true, false, cond}
+use mathlib.Core.List.{List}
+use mathlib.Core.Path.{_≡_, refl, sym, ap, _∙_}
+use Prim.Native.Nat.{ℕ, _≤_}
+use native.Mathlib.Omega.{arith}
+use lib.IntN.{pos}
+use lib.ListN.{length, length-map}
+use lib.Signed.{leZ}
 use borrow.Author.Needs.{needs}
+use Rattle.arith.proofs.Machine.{field}
+use Rattle.equilibrium.specs.Section.{layersOf}
+use Rattle.equilibrium.specs.Code.Columns.{layersIn, turnedDepths}
+use Rattle.equilibrium.specs.Turned.{turned}
+use Rattle.equilibrium.proofs.InColumns.{counted-in, turned-in, area-any}
+use Rattle.clauses.specs.Refusals.{facing}
+use Rattle.clauses.specs.Check.{checkFace}
+use Rattle.clauses.proofs.Checking.{usable-facing}
 use Rattle.clauses.proofs.check.check_accepted.Statement.{statement}
 use Rattle.clauses.proofs.check.check_accepted.Tie as tie
 
+-- a column turned over holds the layers turned over
+seen : (t : Bool) (h n : ℕ) (ds bs : List ℕ) → n ≤ length ds
+    → layersIn n (cond t ds (turnedDepths h n ds)) bs ≡ cond t (layersIn n ds bs) (turned h (layersIn n ds bs))
+seen true h n ds bs few = refl
+seen false h n ds bs few = turned-in h n ds bs few
+
+module _ (c : tie.After-take-apart) where
+  abbrev begin : tie.Start
+  begin = c .before .before .before .before
+
+  places : length (begin .args .s .layers) ≡ 16
+  places = simp length-map at (begin .good .1 .0 .1 .1 .0 .1 .0 .1)
+
+  long : length (c .take-apart .last .1 .0) ≡ 16
+  long = ap length (c .take-apart .ensures .0) ∙ length-map (begin .args .s .layers) (λ l. l .depth) ∙ places
+
+  layers-are : layersIn (begin .args .s .count) (c .take-apart .last .1 .0) (c .take-apart .last .1 .1 .0) ≡ layersOf (begin .args .s)
+  layers-are = counted-in (begin .args .s) places (begin .pre .0 .count-high) (c .take-apart .ensures)
+
+faced : (c : tie.After-face) → (let p = c .before .before .before in let a = begin p .args in
+    layersIn (a .s .count) (c .face .last .1 .1 .1 .0) (p .take-apart .last .1 .1 .0) ≡ facing (a .l .m) (a .x .h) (layersOf (a .s)))
+faced c =
+    let p = c .before .before .before in
+    let a = begin p .args in
+    let ds = p .take-apart .last .1 .0 in
+    let bs = p .take-apart .last .1 .1 .0 in
+    ap (λ (xs : List ℕ). layersIn (a .s .count) xs bs) (c .face .ensures)
+    ∙ ap (λ z. layersIn (a .s .count) (cond (leZ (pos 0) z) ds (turnedDepths (a .x .h) (a .s .count) ds)) bs)
+    (field (a .l .m) (c .before .struct-told .given .1 .0 .1))
+    ∙ seen (leZ (pos 0) (a .l .m)) (a .x .h) (a .s .count) ds bs (omega (arith, long p, begin p .pre .0 .count-high))
+    ∙ ap (facing (a .l .m) (a .x .h)) (layers-are p)
+
+take-apart-requires : tie.Need-take-apart-requires
+take-apart-requires c κs = search needs
+
+face-requires : tie.Need-face-requires
+face-requires c κs =
+    let p = c .before .before in
+    (begin p .pre .0 .bounded .h-high, (begin p .pre .0 .count-high, long p))
+
+steel-area-requires : tie.Need-steel-area-requires
+steel-area-requires c κs = search needs
+
 check-face-requires : tie.Need-check-face-requires
-check-face-requires c κs = search needs
-
-turned-over-requires : tie.Need-turned-over-requires
-turned-over-requires c κs = search needs
-
-check-face-requires-2 : tie.Need-check-face-requires-2
-check-face-requires-2 c κs =
-    let s = c .before .before .before .before in
-    let a = s .args in
-    (subst (λ (f : Section). Usable (a .x) (f .count) (layersOf f)) (sym (c .turned-over .ensures)) (rw (turned-layers (a .x .h) (a .s)) (usable-turned (layersOf (a .s)) (s .pre .0))), s .pre .1)
-
--- the test, of M as it is
-test : (m : ℤ) {t : Bool} → mag m < 2 ^ 63 → leZ (pos 0) (toZ w64 (ofZ w64 m)) ≡ t → leZ (pos 0) m ≡ t
-test m h e = sym (ap (λ (z : ℤ). leZ (pos 0) z) (field m h)) ∙ e
+check-face-requires c κs =
+    let f = c .before .before .before .before in
+    let p = f .before .before .before in
+    let s = begin p in (
+      rw (faced f) (usable-facing (s .args .l .m) (layersOf (s .args .s)) (s .pre .0)),
+      (c .before .before .steel-area .ensures ∙ sym (area-any _ _ (s .args .s .count)), s .pre .1),
+    )
 
 returns : tie.Need-returns
 returns c =
-    let s = c .before .before .before .before in
-    c .check-face .ensures ∙ simp (test (s .args .l .m) (c .before .before .struct-told .given .1 .0 .1) (c .before .if1 .taken))
-
-returns-2 : tie.Need-returns-2
-returns-2 c =
-    let s = c .before .before .before .before .before in
-    let m = test (s .args .l .m) (c .before .before .before .struct-told .given .1 .0 .1) (c .before .before .if1 .left) in
-    c .check-face2 .ensures ∙ simp (m, c .before .turned-over .ensures, turned-layers (s .args .x .h) (s .args .s))
+    let f = c .before .before .before .before .before in
+    let s = begin (f .before .before .before) in
+    c .check-face .ensures ∙ ap (λ ls. checkFace (s .args .x) ls (s .args .l)) (faced f)
 
 pub check-accepted-spec : {M : Type 1} → statement M
-check-accepted-spec = tie.close (tie.spec check-face-requires turned-over-requires check-face-requires-2 returns returns-2)
+check-accepted-spec =
+    tie.close
+    (tie.spec take-apart-requires face-requires steel-area-requires check-face-requires returns)

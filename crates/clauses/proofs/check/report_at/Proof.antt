@@ -1,52 +1,37 @@
 -- `clauses::check::report_at` meets its contract: each number and verdict from its callee. Assumes nothing.
-use Prim.Native.Nat.{ℕ, _≤_}
-use mathlib.Core.Path.{_≡_}
+use Prim.Native.Nat.{_≤_}
+use mathlib.Core.List.{List}
+use mathlib.Core.Path.{_∙_}
+use native.Mathlib.Omega.{arith}
 use borrow.Author.Needs.{needs}
 use Rattle.arith.proofs.Machine.{field, result}
-use Rattle.equilibrium.specs.declared.Section.{Section}
-use Rattle.equilibrium.specs.Section.{layersOf}
-use Rattle.equilibrium.proofs.Sizes.{depth-most}
-use Rattle.clauses.specs.Tension.{areaOf, As, dm, Counts}
+use Rattle.equilibrium.specs.declared.Layer.{Layer}
+use Rattle.equilibrium.specs.Code.Columns.{layersIn}
+use Rattle.equilibrium.proofs.Sizes.{depth-most, area-high}
 use Rattle.clauses.specs.Check.{reportAt}
-use Rattle.clauses.proofs.Layers.{areaOf-high, As-high, dm-high}
-use Rattle.clauses.proofs.Checking.{counted-layers}
+use Rattle.clauses.proofs.Layers.{counts, area-is, As-high, dm-high}
 use Rattle.clauses.proofs.check.report_at.Statement.{statement}
 use Rattle.clauses.proofs.check.report_at.Tie as tie
-
-moment-resistance-requires : tie.Need-moment-resistance-requires
-moment-resistance-requires c κs = search needs
-
-tension-reinforcement-requires : tie.Need-tension-reinforcement-requires
-tension-reinforcement-requires c κs = counted-layers (c .before .args .s) (c .before .pre .0)
 
 -- what is known of the reinforcement
 module _ (c : tie.After-tension-reinforcement) where
   abbrev start : tie.Start
   start = c .before .before
 
-  abbrev s : Section
-  s = start .args .s
-
-  abbrev u : ℕ
-  u = start .args .u
-
-  enough : Counts s
-  enough = counted-layers s (start .pre .0)
-
-  area-is : c .tension-reinforcement .result .area ≡ As u (layersOf s)
-  area-is = c .tension-reinforcement .ensures .0
-
-  depth-is : c .tension-reinforcement .result .depth ≡ dm u (layersOf s)
-  depth-is = c .tension-reinforcement .ensures .1 .0
-
-  all-is : c .tension-reinforcement .result .all ≡ areaOf (layersOf s)
-  all-is = c .tension-reinforcement .ensures .1 .1
+  abbrev ls : List Layer
+  ls = layersIn (start .args .count) (start .args .depths .now) (start .args .areas .now)
 
   area-most : c .tension-reinforcement .result .area ≤ 320000
-  area-most = rw area-is (As-high s u enough)
+  area-most = rw (c .tension-reinforcement .ensures .0) (As-high ls (counts ls (start .pre .0)) (start .args .u))
 
   depth-high : c .tension-reinforcement .result .depth ≤ 1999
-  depth-high = rw depth-is (dm-high s u enough)
+  depth-high = rw (c .tension-reinforcement .ensures .1) (dm-high ls (counts ls (start .pre .0)) (start .args .u))
+
+moment-resistance-requires : tie.Need-moment-resistance-requires
+moment-resistance-requires c κs = search needs
+
+tension-reinforcement-requires : tie.Need-tension-reinforcement-requires
+tension-reinforcement-requires c κs = counts _ (c .before .pre .0)
 
 shear-resistance-requires : tie.Need-shear-resistance-requires
 shear-resistance-requires c κs =
@@ -57,53 +42,74 @@ shear-resistance-requires c κs =
       h-low = b .h-low;
       h-high = b .h-high;
       g-high = b .materials .g-high;
-      N-in = rw (field (start a .args .l .n) (c .struct-told .given .0 .1)) (start a .pre .1 .0 .n-in);
+      N-in = rw (field (start a .args .l .n) (c .struct-told .given .0 .1)) (start a .pre .1 .1 .0 .n-in);
     }
 
 moment-verdict-requires : tie.Need-moment-verdict-requires
 moment-verdict-requires c κs = search needs
 
+verdict-number-requires : tie.Need-verdict-number-requires
+verdict-number-requires c κs = search needs
+
 depth-verdict-requires : tie.Need-depth-verdict-requires
 depth-verdict-requires c κs =
-    let a = c .before .before .before .before in
-    (depth-most (start a .pre .0 .bounded) (start a .pre .1 .1), depth-high a)
+    let a = c .before .before .before .before .before in
+    (omega (arith, depth-most (start a .pre .0 .bounded) (start a .pre .1 .1 .1)), depth-high a)
+
+verdict-number-requires-2 : tie.Need-verdict-number-requires-2
+verdict-number-requires-2 c κs = search needs
 
 shear-verdict-requires : tie.Need-shear-verdict-requires
 shear-verdict-requires c κs = search needs
 
+verdict-number-requires-3 : tie.Need-verdict-number-requires-3
+verdict-number-requires-3 c κs = search needs
+
 least-verdict-requires : tie.Need-least-verdict-requires
 least-verdict-requires c κs =
-    let a = c .before .before .before .before .before .before .before in
+    let a = c .before .before .before .before .before .before .before .before .before .before in
     let b = start a .pre .0 .bounded in
     record { T-high = b .materials .T-high; fyk-high = b .materials .fyk-high; b-high = b .b-high; As-high = area-most a; dm-high = depth-high a }
 
+verdict-number-requires-4 : tie.Need-verdict-number-requires-4
+verdict-number-requires-4 c κs = search needs
+
 most-verdict-requires : tie.Need-most-verdict-requires
 most-verdict-requires c κs =
-    let a = c .before .before .before .before .before .before .before .before in
+    let a = c .before .before .before .before .before .before .before .before .before .before .before .before in
     let b = start a .pre .0 .bounded in
-    (rw (all-is a) (areaOf-high (s a) (enough a)), (b .b-high, b .h-high))
+    (omega (arith, start a .pre .1 .0, area-high (start a .pre .0)), (b .b-high, b .h-high))
+
+verdict-number-requires-5 : tie.Need-verdict-number-requires-5
+verdict-number-requires-5 c κs = search needs
 
 returns : tie.Need-returns
 unfolding reportAt
 returns c =
-    let least = c .before in
-    let shear = least .before in
-    let depth = shear .before .before in
-    let moment = depth .before in
+    let most = c .before in
+    let least = most .before .before in
+    let shear = least .before .before in
+    let depth = shear .before .before .before in
+    let moment = depth .before .before in
     let vrd = moment .before .before in
     let a = vrd .before .before in
     let l = start a .args .l in
     simp (
       result (a .before .moment-resistance .ok) (a .before .moment-resistance .ensures),
-      area-is a,
-      depth-is a,
-      all-is a,
+      a .tension-reinforcement .ensures .0,
+      a .tension-reinforcement .ensures .1,
+      start a .pre .1 .0 ∙ area-is (ls a),
       vrd .shear-resistance .ensures,
       moment .moment-verdict .ensures,
+      depth .before .verdict-number .ensures,
       depth .depth-verdict .ensures,
+      shear .before .before .verdict-number2 .ensures,
       shear .shear-verdict .ensures,
+      least .before .verdict-number3 .ensures,
       least .least-verdict .ensures,
-      c .most-verdict .ensures,
+      most .before .verdict-number4 .ensures,
+      most .most-verdict .ensures,
+      c .verdict-number5 .ensures,
       field (l .n) (vrd .before .struct-told .given .0 .1),
       field (l .m) (moment .before .struct-told2 .given .1 .0 .1),
       field (l .v) (shear .before .struct-told3 .given .1 .1 .0 .1),
@@ -117,8 +123,13 @@ report-at-spec =
     tension-reinforcement-requires
     shear-resistance-requires
     moment-verdict-requires
+    verdict-number-requires
     depth-verdict-requires
+    verdict-number-requires-2
     shear-verdict-requires
+    verdict-number-requires-3
     least-verdict-requires
+    verdict-number-requires-4
     most-verdict-requires
+    verdict-number-requires-5
     returns)

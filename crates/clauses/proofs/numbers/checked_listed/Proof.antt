@@ -6,6 +6,9 @@ use Rattle.clauses.proofs.numbers.checked_listed.Tie as tie
 enum-known-c : tie.Need-enum-known-c
 enum-known-c c = search needs
 
+cast-refused-listed : tie.Need-cast-refused-listed
+cast-refused-listed c = search needs
+
 refused-listed-requires : tie.Need-refused-listed-requires
 refused-listed-requires c κs = search needs
 
@@ -26,6 +29,7 @@ checked-listed-spec =
     tie.close
     (tie.spec
     enum-known-c
+    cast-refused-listed
     refused-listed-requires
     enum-known-c-2
     report-listed-requires

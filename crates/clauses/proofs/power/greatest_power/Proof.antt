@@ -4,7 +4,7 @@ use mathlib.Core.Bool.{Bool}
 use mathlib.Core.Path.{sym, _∙_}
 use native.Mathlib.Omega.{arith}
 use Rattle.arith.proofs.Greatest.{Candidates, start, kept, dropped, wider, found}
-use Rattle.clauses.specs.Power.{powerAtMost}
+use Rattle.clauses.specs.Code.Power.{powerAtMost}
 use Rattle.clauses.proofs.Powers.{never-back, fits-below}
 use Rattle.clauses.proofs.power.greatest_power.Statement.{statement}
 use Rattle.clauses.proofs.power.greatest_power.Tie as tie

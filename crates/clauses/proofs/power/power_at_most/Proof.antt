@@ -28,7 +28,8 @@ mul-result-2 : tie.Need-mul-result-2
 mul-result-2 c = omega (arith, square-fits c)
 
 mul-result-3 : tie.Need-mul-result-3
-mul-result-3 c = omega (arith, cube-fits c, grows (c .before .args .a) (c .before .args .k), grows (c .before .args .a * c .before .args .k) (c .before .args .k))
+mul-result-3 c = omega
+    (arith, cube-fits c, grows (c .before .args .a) (c .before .args .k), grows (c .before .args .a * c .before .args .k) (c .before .args .k))
 
 mul-result-4 : tie.Need-mul-result-4
 mul-result-4 c = omega (arith, cube-fits c, grows (c .before .args .a * c .before .args .k) (c .before .args .k))

@@ -1,13 +1,13 @@
 -- `clauses::shear::axial_share` meets its contract. Assumes nothing.
 use Prim.Native.Nat.{_*_}
-use mathlib.Core.Path.{_∙_}
+use mathlib.Core.Path.{sym, _∙_}
 use native.Mathlib.Omega.{arith}
 use lib.IntN.{pos}
 use lib.Signed.{_<ℤ_}
 use Rattle.arith.specs.Floor.{floorDiv}
 use Rattle.arith.proofs.Machine.{M, M.num, M._⊠_, var, nat, fits, value, for, result}
 use Rattle.arith.proofs.Ring.{#, lt! }
-use Rattle.clauses.specs.Shear.{axialShare}
+use Rattle.clauses.proofs.Roots.{axial-is}
 use borrow.Author.Needs.{needs}
 use Rattle.clauses.proofs.shear.axial_share.Statement.{statement}
 use Rattle.clauses.proofs.shear.axial_share.Tie as tie
@@ -41,10 +41,11 @@ floor-div-requires : tie.Need-floor-div-requires
 floor-div-requires c κs = for (below c) (λ z. pos 0 <ℤ z) tt (lt! (# (pos 0)) (# (pos (100 * c .args .h))) (omega (arith, c .pre .1 .1 .0)))
 
 returns : tie.Need-returns
-unfolding axialShare
 returns c =
     let s = c .before in
-    result (c .floor-div .ok) (c .floor-div .ensures ∙ (λ i. floorDiv (value (above s) tt i) (value (below s) tt i)))
+    result (c .floor-div .ok)
+    (c .floor-div .ensures ∙ (λ i. floorDiv (value (above s) tt i) (value (below s) tt i))
+    ∙ sym (axial-is (s .args .force) (s .args .dm) (s .args .h) (s .pre .1 .1 .0)))
 
 pub axial-share-spec : {M : Type 1} → statement M
 axial-share-spec =

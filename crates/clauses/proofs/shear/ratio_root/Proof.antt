@@ -1,11 +1,12 @@
 -- `clauses::shear::ratio_root` meets its contract. Assumes nothing.
+use mathlib.Core.Bool.{Bool, true, false, cond}
 use mathlib.Core.Logic.{inr}
-use mathlib.Core.Path.{refl, _∙_}
+use mathlib.Core.Path.{refl}
+use Prim.Native.Nat.{ℕ, _*_, _≤_}
 use native.Mathlib.Nat.{mul-le-mul}
 use native.Mathlib.Omega.{arith}
-use lib.Dec.{lit<}
-use borrow.Author.Tests.{lt-ltb, le-ltb}
-use Rattle.clauses.proofs.Roots.{r-rich, r-other}
+use lib.Dec.{ltb}
+use Rattle.clauses.proofs.Roots.{r-either}
 use borrow.Author.Needs.{needs}
 use Rattle.clauses.proofs.shear.ratio_root.Statement.{statement}
 use Rattle.clauses.proofs.shear.ratio_root.Tie as tie
@@ -13,45 +14,54 @@ use Rattle.clauses.proofs.shear.ratio_root.Tie as tie
 mul-concrete : tie.Need-mul-concrete
 mul-concrete c = omega (arith, mul-le-mul (c .pre .b-high) (c .pre .dm-high))
 
-mul-if1 : tie.Need-mul-if1
-mul-if1 c = search needs
+mul-rich : tie.Need-mul-rich
+mul-rich c = search needs
 
-mul-greatest-power : tie.Need-mul-greatest-power
-mul-greatest-power c = search needs
+either-requires : tie.Need-either-requires
+either-requires c κs = search needs
 
-greatest-power-requires : tie.Need-greatest-power-requires
-greatest-power-requires c κs = record { exponent = inr refl; product = lit< tt }
+mul-either : tie.Need-mul-either
+mul-either c = search needs
 
-mul-greatest-power-2 : tie.Need-mul-greatest-power-2
-mul-greatest-power-2 c = search needs
+mul-either-2 : tie.Need-mul-either-2
+mul-either-2 c = search needs
 
-mul-greatest-power-3 : tie.Need-mul-greatest-power-3
-mul-greatest-power-3 c = omega (arith, mul-le-mul (c .before .pre .As-high) (c .before .pre .fck-high))
+mul-either-3 : tie.Need-mul-either-3
+mul-either-3 c = omega (arith, mul-le-mul (c .before .pre .As-high) (c .before .pre .fck-high))
 
-greatest-power-requires-2 : tie.Need-greatest-power-requires-2
-greatest-power-requires-2 c κs =
-    record { exponent = inr refl; product = omega (arith, mul-le-mul (c .before .pre .b-high) (c .before .pre .dm-high)) }
+either-requires-2 : tie.Need-either-requires-2
+either-requires-2 c κs = search needs
+
+-- the divisor is b·dm or 1
+over-high : (t : Bool) {n : ℕ} → n ≤ 3998000 → cond t 1 n ≤ 3998000
+over-high true h = omega arith
+over-high false h = h
+
+cube-root-requires : tie.Need-cube-root-requires
+cube-root-requires c κs =
+    let e = c .before in
+    let s = e .before in
+    let rich = ltb (s .args .b * s .args .dm) (50 * s .args .area) in
+    let high : e .either .result ≤ 3998000 = rw (e .either .ensures) (over-high rich (mul-le-mul (s .pre .b-high) (s .pre .dm-high))) in
+    record { exponent = inr refl; product = omega arith }
 
 returns : tie.Need-returns
 returns c =
-    let a = c .before .before .args in
-    c .greatest-power .ensures ∙ r-rich (a .b) (a .fck) (a .area) (a .dm) (lt-ltb _ _ (c .before .if1 .taken))
-
-returns-2 : tie.Need-returns-2
-returns-2 c =
-    let a = c .before .before .args in
-    c .greatest-power2 .ensures ∙ r-other (a .b) (a .fck) (a .area) (a .dm) (le-ltb _ _ (c .before .if1 .left))
+    let y = c .before in
+    let a = y .before in
+    let s = a .before .args in
+    rw (c .cube-root .ensures, y .either2 .ensures, a .either .ensures) (r-either (s .b) (s .fck) (s .area) (s .dm) _ refl)
 
 pub ratio-root-spec : {M : Type 1} → statement M
 ratio-root-spec =
     tie.close
     (tie.spec
     mul-concrete
-    mul-if1
-    mul-greatest-power
-    greatest-power-requires
-    mul-greatest-power-2
-    mul-greatest-power-3
-    greatest-power-requires-2
-    returns
-    returns-2)
+    mul-rich
+    either-requires
+    mul-either
+    mul-either-2
+    mul-either-3
+    either-requires-2
+    cube-root-requires
+    returns)

@@ -44,7 +44,8 @@ module _ (c : tie.After-counted-force) where
 abbrev sum : tie.After-axial-share → M
 sum c =
     let f = c .before in
-    concrete (f .before) ⊞ call (c .axial-share .ok) (c .axial-share .ensures ∙ ap (λ x. axialShare x (s f .args .dm) (s f .args .h)) (force-is f)) (axial-in (s f .args .h) (force-in f) (s f .pre .stress .dm-high))
+    concrete (f .before) ⊞ call (c .axial-share .ok) (c .axial-share .ensures ∙ ap (λ x. axialShare x (s f .args .dm) (s f .args .h)) (force-is f))
+    (axial-in (s f .args .h) (omega (arith, s f .pre .h-low)) (force-in f) (s f .pre .stress .dm-high))
 
 concrete-share-requires : tie.Need-concrete-share-requires
 concrete-share-requires c κs = search needs

@@ -2,34 +2,44 @@
 use Prim.Native.Nat.{_+_, _-_}
 use mathlib.Core.Path.{_≡_, ap, _∙_}
 use native.Mathlib.Omega.{arith}
+use borrow.Author.Needs.{needs}
 use Rattle.clauses.specs.SizeFactor.{K}
 use Rattle.clauses.proofs.Factor.{below}
-use borrow.Author.Needs.{needs}
 use Rattle.clauses.proofs.size.size_factor.Statement.{statement}
 use Rattle.clauses.proofs.size.size_factor.Tie as tie
+
+at : (c : tie.Else1) → 200 + (c .before .args .dm - 200) ≡ c .before .args .dm
+at c = omega arith
 
 returns : tie.Need-returns
 returns c = below _ (c .if1 .taken)
 
-factors-requires : tie.Need-factors-requires
-factors-requires c κs = search needs
-
-mul-result : tie.Need-mul-result
-mul-result c = search needs
-
-array-read-result : tie.Need-array-read-result
-array-read-result c = search needs
+near-factor-requires : tie.Need-near-factor-requires
+near-factor-requires c κs = search needs
 
 cast-result : tie.Need-cast-result
 cast-result c = search needs
 
 returns-2 : tie.Need-returns-2
-returns-2 c =
-    let dm = c .before .before .args .dm in
-    let e : 200 + (dm - 200) ≡ dm = omega arith in
-    c .factors .ensures .entry (dm - 200) (omega arith) ∙ ap K e
+returns-2 c = c .near-factor .ensures ∙ ap K (at (c .before .before))
+
+far-factor-requires : tie.Need-far-factor-requires
+far-factor-requires c κs = search needs
+
+cast-result-2 : tie.Need-cast-result-2
+cast-result-2 c = search needs
+
+returns-3 : tie.Need-returns-3
+returns-3 c = c .far-factor .ensures ∙ ap K (at (c .before .before))
 
 pub size-factor-spec : {M : Type 1} → statement M
 size-factor-spec =
     tie.close
-    (tie.spec returns factors-requires mul-result array-read-result cast-result returns-2)
+    (tie.spec
+    returns
+    near-factor-requires
+    cast-result
+    returns-2
+    far-factor-requires
+    cast-result-2
+    returns-3)

@@ -1,77 +1,100 @@
 -- `clauses::tension::layer_sums` meets its contract: each sum so far, with what is left, is the sum over all. Assumes nothing.
-use Prim.Native.Nat.{ℕ, _+_, _-_, _*_, _≤_}
-use mathlib.Core.List.{[], _∷_}
+use Prim.Native.Nat.{_+_, _-_, _≤_}
+use mathlib.Core.Bool.{true}
+use mathlib.Core.List.{List, _∷_}
 use mathlib.Core.Path.{_≡_}
 use native.Mathlib.Omega.{arith}
-use lib.ListN.{length-map, take, drop, getD}
+use lib.ListN.{drop}
 use borrow.Author.Needs.{needs}
 use Rattle.equilibrium.specs.declared.Layer.{Layer}
-use Rattle.equilibrium.specs.declared.Section.{Section}
-use Rattle.equilibrium.specs.Section.{layersOf, noLayer}
-use Rattle.equilibrium.proofs.Walk.{next, over}
-use Rattle.clauses.specs.Tension.{tensionLayers, total}
-use Rattle.clauses.proofs.Layers.{Summed, sum-step, sum-done, As-high, moment-most, areaOf-high}
+use Rattle.equilibrium.specs.Section.{depthOk, areaOk}
+use Rattle.equilibrium.specs.Code.Columns.{layerIn, layersIn}
+use Rattle.equilibrium.proofs.OneLayer.{layer-high, steel-high}
+use Rattle.equilibrium.proofs.Walk.{all-at}
+use Rattle.equilibrium.proofs.InColumns.{next-in, over-in}
+use Rattle.clauses.specs.Tension.{inTension, tensionLayers, total, As}
+use Rattle.clauses.proofs.Layers.{Summed, sum-step, sum-done, share, tension-step, As-high, moment-most}
 use Rattle.clauses.proofs.tension.layer_sums.Statement.{statement}
 use Rattle.clauses.proofs.tension.layer_sums.Tie as tie
 
 abbrev Inv-loop : tie.InvT-loop
-Inv-loop u area₀ moment₀ all₀ layers count i₀ area moment all i = (i ≤ count) × Summed u (take count layers) (drop i (take count layers)) area moment all
+Inv-loop count depths areas u area₀ moment₀ i₀ area moment i = (i ≤ count) × Summed u (layersIn count depths areas)
+    (drop i (layersIn count depths areas)) area moment
 
 abbrev μ-loop : tie.MeasureT-loop
-μ-loop u area₀ moment₀ all₀ layers count i₀ area moment all i = count - i
+μ-loop count depths areas u area₀ moment₀ i₀ area moment i = count - i
+
+-- the layer at i
+module _ (c : tie.In-loop Inv-loop μ-loop) where
+  abbrev start : tie.Start Inv-loop μ-loop
+  start = c .before .before
+
+  abbrev ls : List Layer
+  ls = layersIn (start .args .count) (start .args .depths .now) (start .args .areas .now)
+
+  abbrev layer : Layer
+  layer = layerIn (start .args .depths .now) (start .args .areas .now) (c .before .loop .i)
+
+  next : drop (c .before .loop .i) ls ≡ layer ∷ drop (c .before .loop .i + 1) ls
+  next = next-in (start .args .depths .now) (start .args .areas .now) (c .loop-test .taken)
+
+  depth-ok : depthOk 2000 layer ≡ true
+  depth-ok = all-at (depthOk 2000) (c .before .loop .i) ls (start .pre .depths) next
+
+  area-ok : areaOk layer ≡ true
+  area-ok = all-at areaOk (c .before .loop .i) ls (start .pre .areas) next
+
+-- the sums with it
+summed : (c : tie.After-first-moment Inv-loop μ-loop) → (let t = c .before in let l = t .before .before .before in
+    Summed (start l .args .u) (ls l) (drop (l .before .loop .i + 1) (ls l)) (l .before .loop .area + t .tension-area .result)
+    (l .before .loop .moment + c .first-moment .result))
+summed c =
+    let l = c .before .before .before .before in
+    sum-step (next l) (c .before .tension-area .ensures) (c .first-moment .ensures) (l .before .loop .inv .1)
 
 loop-holds : tie.Need-loop-holds Inv-loop μ-loop
 loop-holds c = search needs
 
-mul-l : tie.Need-mul-l Inv-loop μ-loop
-mul-l c = search needs
+mul-depth : tie.Need-mul-depth Inv-loop μ-loop
+mul-depth c = search needs
 
-array-copy-out-l : tie.Need-array-copy-out-l Inv-loop μ-loop
-array-copy-out-l c = search needs
+element-copy-out-depth : tie.Need-element-copy-out-depth Inv-loop μ-loop
+element-copy-out-depth c = search needs
+
+mul-tension-area : tie.Need-mul-tension-area Inv-loop μ-loop
+mul-tension-area c = search needs
+
+element-copy-out-tension-area : tie.Need-element-copy-out-tension-area Inv-loop μ-loop
+element-copy-out-tension-area c = search needs
 
 tension-area-requires : tie.Need-tension-area-requires Inv-loop μ-loop
 tension-area-requires c κs = search needs
 
--- the sums with the next layer
-module _ (c : tie.After-tension-area Inv-loop μ-loop) where
-  abbrev at : tie.At-loop Inv-loop μ-loop
-  at = c .before .before .before
-
-  abbrev s : Section
-  s = at .before .before .args .s
-
-  abbrev u : ℕ
-  u = at .before .before .args .u
-
-  abbrev l : Layer
-  l = getD (s .layers) (at .loop .i) noLayer
-
-  abbrev a : ℕ
-  a = c .tension-area .result
-
-  layer-is : drop (at .loop .i) (layersOf s) ≡ l ∷ drop (at .loop .i + 1) (layersOf s)
-  layer-is = next s (at .loop .i) (simp length-map at (at .before .before .good .0 .1 .1 .0 .1 .0 .1)) (at .before .before .pre .count-high) (omega arith)
-
-  summed : Summed u (layersOf s) (drop (at .loop .i + 1) (layersOf s)) (at .loop .area + a) (at .loop .moment + a * l .depth) (at .loop .all + l .area)
-  summed = sum-step layer-is (c .tension-area .ensures) (at .loop .inv .1)
-
 add-area : tie.Need-add-area Inv-loop μ-loop
-add-area c = omega (arith, summed c .area-is, As-high (s c) (u c) (at c .before .before .pre))
+add-area c =
+    let l = c .before .before .before in
+    let m : As (start l .args .u) (ls l) ≤ 320000 = As-high (ls l) (start l .pre) (start l .args .u) in
+    omega (
+      arith,
+      tension-step (start l .args .u) (λ l. l .area) (layer l) (drop (l .before .loop .i + 1) (ls l)),
+      rw (next l) at
+          (l .before .loop .inv .1 .area-is),
+      c .tension-area .ensures,
+    )
 
-cast-moment : tie.Need-cast-moment Inv-loop μ-loop
-cast-moment c = search needs
-
-mul-moment : tie.Need-mul-moment Inv-loop μ-loop
-mul-moment c = let t = c .before in omega (arith, summed t .moment-is, moment-most (s t) (u t) (at t .before .before .pre))
+first-moment-requires : tie.Need-first-moment-requires Inv-loop μ-loop
+first-moment-requires c κs =
+    let l = c .before .before .before in
+    let most = share (start l .args .u) (inTension (start l .args .u) (layer l)) (layer l .area) in
+    (omega (arith, c .tension-area .ensures, most, steel-high (layer l) (area-ok l)), omega (arith, layer-high 2000 (layer l) (depth-ok l)))
 
 add-moment : tie.Need-add-moment Inv-loop μ-loop
-add-moment c = let t = c .before in omega (arith, summed t .moment-is, moment-most (s t) (u t) (at t .before .before .pre))
-
-cast-all : tie.Need-cast-all Inv-loop μ-loop
-cast-all c = search needs
-
-add-all : tie.Need-add-all Inv-loop μ-loop
-add-all c = let t = c .before .before in omega (arith, summed t .every-is, areaOf-high (s t) (at t .before .before .pre))
+add-moment c = omega (
+  arith,
+  summed c .moment-is,
+  moment-most (ls (c .before .before .before .before)) (start (c .before .before .before .before) .pre)
+      (start (c .before .before .before .before) .args .u),
+)
 
 add-i : tie.Need-add-i Inv-loop μ-loop
 add-i c = search needs
@@ -80,17 +103,15 @@ loop-less : tie.Need-loop-less Inv-loop μ-loop
 loop-less c = search needs
 
 loop-again : tie.Need-loop-again Inv-loop μ-loop
-loop-again c = (omega arith, summed (c .before .before))
+loop-again c = (omega arith, summed c)
 
 returns : tie.Need-returns Inv-loop μ-loop
 unfolding total tensionLayers
 returns c =
     let at = c .before in
-    let s = at .before .before .args .s in
-    let e : at .loop .i ≡ s .count = omega arith in
-    let none : drop (at .loop .i) (layersOf s) ≡ [] = rw e (over (s .count) (s .layers)) in
-    let done = sum-done none (at .loop .inv .1) in
-    (omega (arith, done .area-is), (omega (arith, done .moment-is), omega (arith, done .every-is)))
+    let a = at .before .args in
+    let done = sum-done (over-in (a .depths .now) (a .areas .now) (a .count) (at .loop .i) (omega arith)) (at .loop .inv .1) in
+    (omega (arith, done .area-is), omega (arith, done .moment-is))
 
 pub layer-sums-spec : {M : Type 1} → statement M
 layer-sums-spec =
@@ -99,15 +120,14 @@ layer-sums-spec =
     Inv-loop
     μ-loop
     loop-holds
-    mul-l
-    array-copy-out-l
+    mul-depth
+    element-copy-out-depth
+    mul-tension-area
+    element-copy-out-tension-area
     tension-area-requires
     add-area
-    cast-moment
-    mul-moment
+    first-moment-requires
     add-moment
-    cast-all
-    add-all
     add-i
     loop-less
     loop-again

@@ -1,50 +1,42 @@
--- `equilibrium::resistance::concrete_moment` meets its contract: k is L·u, and r what it leaves of 800h. Assumes nothing.
-use Prim.Native.Nat.{_-_, _*_, _/_, _^_, _<_}
-use mathlib.Core.Path.{sym, _∙_}
+-- `equilibrium::resistance::concrete_moment` meets its contract. Assumes nothing.
+use Prim.Native.Nat.{_^_, _<_}
 use native.Mathlib.Nat.{lt-of-le-of-lt}
 use native.Mathlib.Omega.{arith}
+use borrow.Author.Needs.{needs}
 use lib.Dec.{lit<}
 use mir.Syntax.{w64}
 use mir.Facts.{toZ-pos}
-use Rattle.equilibrium.proofs.Sizes.{ConcreteSizes, concrete-sizes}
-use Rattle.equilibrium.proofs.Whole.{concrete-floor}
-use borrow.Author.Needs.{needs}
+use Rattle.equilibrium.specs.Code.Whole.{blockMoment}
+use Rattle.equilibrium.proofs.Sizes.{block-sizes}
 use Rattle.equilibrium.proofs.resistance.concrete_moment.Statement.{statement}
 use Rattle.equilibrium.proofs.resistance.concrete_moment.Tie as tie
 
-sizes : (s : tie.Start) → ConcreteSizes (s .args .x) (s .args .u)
-sizes s = concrete-sizes (s .args .x) (s .args .u) (s .pre .0) (s .pre .1)
-
 -- the quotient is a small natural
-small : (s : tie.Start) → s .args .x .m .f * s .args .x .b * (s .args .x .m .l * s .args .u * (800 * s .args .x .h - s .args .x .m .l * s .args .u)) / 128000000 < 2 ^ 63
-small s = lt-of-le-of-lt (sizes s .quotient) (lit< tt)
+small : (c : tie.Start) → blockMoment (c .args .f) (c .args .b) (c .args .h) (c .args .k) < 2 ^ 63
+small c = lt-of-le-of-lt (block-sizes (c .pre) .quotient) (lit< tt)
 
-mul-k : tie.Need-mul-k
-mul-k c = omega (arith, sizes (c .before) .high, c .before .pre .0 .h-high)
+mul-result : tie.Need-mul-result
+mul-result c = omega (arith, block-sizes (c .pre) .strength)
 
-mul-t : tie.Need-mul-t
-mul-t c = omega (arith, sizes (c .before .before) .strength)
+mul-result-2 : tie.Need-mul-result-2
+mul-result-2 c = search needs
 
-mul-t-2 : tie.Need-mul-t-2
-mul-t-2 c = search needs
+sub-result : tie.Need-sub-result
+sub-result c = search needs
 
-sub-t : tie.Need-sub-t
-sub-t c = sizes (c .before .before .before) .high
+mul-result-3 : tie.Need-mul-result-3
+mul-result-3 c = omega (arith, block-sizes (c .pre) .product)
 
-mul-t-3 : tie.Need-mul-t-3
-mul-t-3 c = omega (arith, sizes (c .before .before .before) .product)
-
-mul-t-4 : tie.Need-mul-t-4
-mul-t-4 c = omega (arith, sizes (c .before .before .before) .above)
+mul-result-4 : tie.Need-mul-result-4
+mul-result-4 c = omega (arith, block-sizes (c .pre) .above)
 
 cast-result : tie.Need-cast-result
-cast-result c = record { sfits = small (c .before .before .before) }
+cast-result c = record { sfits = small c }
 
 returns : tie.Need-returns
-returns c =
-    let s = c .before .before .before in
-    toZ-pos w64 (small s) ∙ sym (concrete-floor (s .args .x) (s .args .u) _ (s .pre .1 .low) (sizes s .rest))
+returns c = toZ-pos w64 (small c)
 
 pub concrete-moment-spec : {M : Type 1} → statement M
 concrete-moment-spec =
-    tie.close (tie.spec mul-k mul-t mul-t-2 sub-t mul-t-3 mul-t-4 cast-result returns)
+    tie.close
+    (tie.spec mul-result mul-result-2 sub-result mul-result-3 mul-result-4 cast-result returns)

@@ -5,7 +5,7 @@ use lib.Dec.{eqb}
 use Rattle.record.specs.declared.Reading.{Reading}
 use Rattle.listing.specs.Records.{answerOf}
 use borrow.Author.Tests.{ne-eqb, eq-eqb}
-use Rattle.clauses.specs.Check.{listed, refused, checkOf}
+use Rattle.clauses.specs.Check.{listed, refusedListed, checkOf}
 use borrow.Author.Needs.{needs}
 use Rattle.listing.proofs.entries.entry_of.Statement.{statement}
 use Rattle.listing.proofs.entries.entry_of.Tie as tie
@@ -20,7 +20,7 @@ refused-listed-requires : tie.Need-refused-listed-requires
 refused-listed-requires c κs = search needs
 
 -- what is answered of a reading, where the test of its refusal says so
-by-refusal : (r : Reading) (t : Bool) → eqb (r .refusal) 0 ≡ t → cond t (listed (checkOf (r .section) (r .load))) (refused (r .refusal)) ≡ answerOf r
+by-refusal : (r : Reading) (t : Bool) → eqb (r .refusal) 0 ≡ t → cond t (listed (checkOf (r .section) (r .load))) (refusedListed (r .refusal)) ≡ answerOf r
 by-refusal r t e = rw (← e)
 
 returns : tie.Need-returns

@@ -23,7 +23,10 @@ module _ (a : Listed) where
   first = map natural (a .refusal ∷ a .u ∷ [])
 
   abbrev others : List (List ℕ)
-  others = map natural (a .vrd ∷ a .dm ∷ a .area ∷ a .v1 ∷ a .v2 ∷ a .v3 ∷ a .v4 ∷ a .v5 ∷ [])
+  others = map natural (a .vrd ∷ a .dm ∷ a .area ∷ [])
+
+  abbrev judged : List (List ℕ)
+  judged = map natural (a .verdicts)
 
   abbrev leading : List ℕ
   leading = spaced first []
@@ -34,14 +37,18 @@ module _ (a : Listed) where
   abbrev trailing : List ℕ
   trailing = spaced others []
 
+  abbrev verdicts : List ℕ
+  verdicts = spaced judged []
+
   abbrev after-leading : List ℕ
-  after-leading = signed ++ (trailing ++ newline)
+  after-leading = signed ++ (trailing ++ (verdicts ++ newline))
 
   parts : (k : ℕ) → natural k ++ (leading ++ after-leading) ≡ line k a
   unfolding line
   parts k =
-      ap (λ (l : List ℕ). natural k ++ (leading ++ (signed ++ l))) (before-it others newline)
-      ∙ ap (λ (l : List ℕ). natural k ++ l) (before-it first (signed ++ spaced others newline))
+      ap (λ (l : List ℕ). natural k ++ (leading ++ (signed ++ (trailing ++ l)))) (before-it judged newline)
+      ∙ ap (λ (l : List ℕ). natural k ++ (leading ++ (signed ++ l))) (before-it others (spaced judged newline))
+      ∙ ap (λ (l : List ℕ). natural k ++ l) (before-it first (signed ++ spaced others (spaced judged newline)))
 
 -- ---- the stages: `left` is left once the buffer is ys and the place j
 abbrev entry : tie.Start → Listed
@@ -54,12 +61,15 @@ begun-here : (s : tie.Start) → Stage s (now (s .args .out)) (s .args .at) (nat
 begun-here s = rw (parts (entry s) (s .args .number)) (begun _ _ _)
 
 put-natural-requires : tie.Need-put-natural-requires
-put-natural-requires c κs = let s = c .before .before in has-room (natural (s .args .number)) (leading (entry s) ++ after-leading (entry s)) (s .pre) (begun-here s)
+put-natural-requires c κs =
+    let s = c .before .before .before in
+    has-room (natural (s .args .number)) (leading (entry s) ++ after-leading (entry s)) (s .pre) (begun-here s)
 
 abbrev start1 : tie.After-put-natural → tie.Start
-start1 c = c .before .before .before
+start1 c = c .before .before .before .before
 
-stage1 : (c : tie.After-put-natural) → Stage (start1 c) (c .put-natural .last .0) (c .put-natural .result) (leading (entry (start1 c)) ++ after-leading (entry (start1 c)))
+stage1 : (c : tie.After-put-natural)
+    → Stage (start1 c) (c .put-natural .last .0) (c .put-natural .result) (leading (entry (start1 c)) ++ after-leading (entry (start1 c)))
 stage1 c = next-in (leading (entry (start1 c)) ++ after-leading (entry (start1 c))) (start1 c .pre) (begun-here (start1 c)) (c .put-natural .ensures)
 
 slice-aggregate-put-words : tie.Need-slice-aggregate-put-words
@@ -80,14 +90,15 @@ put-signed-word-requires : tie.Need-put-signed-word-requires
 put-signed-word-requires c κs =
     let p = c .before .before .before .before in
     let a = start2 p .args .a in
-    rw (field (a .mrd) (c .struct-told .given .1 .1 .0 .1)) (has-room (signed a) (trailing a ++ newline) (start2 p .pre) (stage2 p))
+    rw (field (a .mrd) (c .struct-told .given .1 .1 .0 .1)) (has-room (signed a) (trailing a ++ (verdicts a ++ newline)) (start2 p .pre) (stage2 p))
 
 abbrev start3 : tie.After-put-signed-word → tie.Start
 start3 c = start2 (c .before .before .before .before .before)
 
-stage3 : (c : tie.After-put-signed-word) → Stage (start3 c) (c .put-signed-word .last .0) (c .put-signed-word .result) (trailing (entry (start3 c)) ++ newline)
+stage3 : (c : tie.After-put-signed-word)
+    → Stage (start3 c) (c .put-signed-word .last .0) (c .put-signed-word .result) (trailing (entry (start3 c)) ++ (verdicts (entry (start3 c)) ++ newline))
 stage3 c =
-    next-in (trailing (entry (start3 c)) ++ newline) (start3 c .pre) (stage2 (c .before .before .before .before .before))
+    next-in (trailing (entry (start3 c)) ++ (verdicts (entry (start3 c)) ++ newline)) (start3 c .pre) (stage2 (c .before .before .before .before .before))
     (same-text (ap (λ (z : ℤ). 32 ∷ integer z) (field (start3 c .args .a .mrd) (c .before .struct-told .given .1 .1 .0 .1))) (c .put-signed-word .ensures))
 
 slice-aggregate-put-words-2 : tie.Need-slice-aggregate-put-words-2
@@ -96,16 +107,31 @@ slice-aggregate-put-words-2 c = search needs
 put-words-requires-2 : tie.Need-put-words-requires-2
 put-words-requires-2 c κs =
     let p = c .before .before .before .before in
-    has-room (trailing (entry (start3 p))) newline (start3 p .pre) (stage3 p)
+    has-room (trailing (entry (start3 p))) (verdicts (entry (start3 p)) ++ newline) (start3 p .pre) (stage3 p)
 
 abbrev start4 : tie.After-put-words2 → tie.Start
 start4 c = start3 (c .before .before .before .before .before)
 
-stage4 : (c : tie.After-put-words2) → Stage (start4 c) (c .put-words2 .last .0) (c .put-words2 .result) newline
-stage4 c = next-in newline (start4 c .pre) (stage3 (c .before .before .before .before .before)) (c .put-words2 .ensures)
+stage4 : (c : tie.After-put-words2) → Stage (start4 c) (c .put-words2 .last .0) (c .put-words2 .result) (verdicts (entry (start4 c)) ++ newline)
+stage4 c =
+    next-in (verdicts (entry (start4 c)) ++ newline) (start4 c .pre) (stage3 (c .before .before .before .before .before)) (c .put-words2 .ensures)
+
+slice-aggregate-put-words-3 : tie.Need-slice-aggregate-put-words-3
+slice-aggregate-put-words-3 c = search needs
+
+put-words-requires-3 : tie.Need-put-words-requires-3
+put-words-requires-3 c κs =
+    let p = c .before .before .before .before in
+    has-room (verdicts (entry (start4 p))) newline (start4 p .pre) (stage4 p)
+
+abbrev start5 : tie.After-put-words3 → tie.Start
+start5 c = start4 (c .before .before .before .before .before)
+
+stage5 : (c : tie.After-put-words3) → Stage (start5 c) (c .put-words3 .last .0) (c .put-words3 .result) newline
+stage5 c = next-in newline (start5 c .pre) (stage4 (c .before .before .before .before .before)) (c .put-words3 .ensures)
 
 put-byte-requires : tie.Need-put-byte-requires
-put-byte-requires c κs = let p = c .before .before .before in has-room newline [] (start4 p .pre) (stage4 p)
+put-byte-requires c κs = let p = c .before .before .before in has-room newline [] (start5 p .pre) (stage5 p)
 
 same-length : tie.Need-same-length
 same-length c = search needs
@@ -114,7 +140,7 @@ returns : tie.Need-returns
 returns c =
     let b = c .before .before in
     let p = b .before .before .before .before in
-    finished (next-in [] (start4 p .pre) (stage4 p) (b .put-byte .ensures))
+    finished (next-in [] (start5 p .pre) (stage5 p) (b .put-byte .ensures))
 
 pub put-line-spec : {M : Type 1} → statement M
 put-line-spec =
@@ -126,6 +152,8 @@ put-line-spec =
     put-signed-word-requires
     slice-aggregate-put-words-2
     put-words-requires-2
+    slice-aggregate-put-words-3
+    put-words-requires-3
     put-byte-requires
     same-length
     returns)

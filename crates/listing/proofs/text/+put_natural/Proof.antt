@@ -26,53 +26,65 @@ put-natural-below t =
     and 1 put-natural-kinds.ps (falls 1 put-natural-kinds.ps _<_ μ-put-natural t) put-natural.Pre
 
 module _ (t : ℕ) where
-  cast-digit : put-natural-lts.Need-cast-put-byte (put-byte-reads.Asked, put-byte-reads.Learnt, put-natural-below t, put-natural.Post) (put-natural-at t) put-natural.Post
+  cast-digit : put-natural-lts.Need-cast-put-byte
+      (put-byte-reads.Asked, put-byte-reads.Learnt, put-natural-below t, put-natural.Post) (put-natural-at t) put-natural.Post
   cast-digit c = omega arith
 
-  add-digit : put-natural-lts.Need-add-put-byte (put-byte-reads.Asked, put-byte-reads.Learnt, put-natural-below t, put-natural.Post) (put-natural-at t) put-natural.Post
+  add-digit : put-natural-lts.Need-add-put-byte
+      (put-byte-reads.Asked, put-byte-reads.Learnt, put-natural-below t, put-natural.Post) (put-natural-at t) put-natural.Post
   add-digit c = omega arith
 
-  put-byte-requires : put-natural-lts.Need-put-byte-requires (put-byte-reads.Asked, put-byte-reads.Learnt, put-natural-below t, put-natural.Post) (put-natural-at t) put-natural.Post
+  put-byte-requires : put-natural-lts.Need-put-byte-requires
+      (put-byte-reads.Asked, put-byte-reads.Learnt, put-natural-below t, put-natural.Post) (put-natural-at t) put-natural.Post
   put-byte-requires c κs =
       let s = c .before .before .before in
       omega (arith, ap length (natural-one (s .args .n) (c .before .if1 .taken)), s .pre .1)
 
-  put-natural-requires : put-natural-lts.Need-put-natural-requires (put-byte-reads.Asked, put-byte-reads.Learnt, put-natural-below t, put-natural.Post) (put-natural-at t) put-natural.Post
+  put-natural-requires : put-natural-lts.Need-put-natural-requires
+      (put-byte-reads.Asked, put-byte-reads.Learnt, put-natural-below t, put-natural.Post) (put-natural-at t) put-natural.Post
   put-natural-requires c κs =
       let s = c .before .before .before in
       (omega (arith, s .pre .0, c .before .if1 .left), omega (arith, length-more (s .args .n) (c .before .if1 .left), s .pre .1))
 
-  cast-last : put-natural-lts.Need-cast-put-byte-2 (put-byte-reads.Asked, put-byte-reads.Learnt, put-natural-below t, put-natural.Post) (put-natural-at t) put-natural.Post
+  cast-last : put-natural-lts.Need-cast-put-byte-2
+      (put-byte-reads.Asked, put-byte-reads.Learnt, put-natural-below t, put-natural.Post) (put-natural-at t) put-natural.Post
   cast-last c = omega arith
 
-  add-last : put-natural-lts.Need-add-put-byte-2 (put-byte-reads.Asked, put-byte-reads.Learnt, put-natural-below t, put-natural.Post) (put-natural-at t) put-natural.Post
+  add-last : put-natural-lts.Need-add-put-byte-2
+      (put-byte-reads.Asked, put-byte-reads.Learnt, put-natural-below t, put-natural.Post) (put-natural-at t) put-natural.Post
   add-last c = omega arith
 
-  put-byte-requires-2 : put-natural-lts.Need-put-byte-requires-2 (put-byte-reads.Asked, put-byte-reads.Learnt, put-natural-below t, put-natural.Post) (put-natural-at t) put-natural.Post
+  put-byte-requires-2 : put-natural-lts.Need-put-byte-requires-2
+      (put-byte-reads.Asked, put-byte-reads.Learnt, put-natural-below t, put-natural.Post) (put-natural-at t) put-natural.Post
   put-byte-requires-2 c κs =
       let p = c .before .before .before in
       let s = p .before .before .before .before in
       omega (arith, length-more (s .args .n) (p .before .before .if1 .left), s .pre .1, p .put-natural .ensures .end, p .put-natural .kept .0)
 
-  same-length : put-natural-lts.Need-same-length (put-byte-reads.Asked, put-byte-reads.Learnt, put-natural-below t, put-natural.Post) (put-natural-at t) put-natural.Post
+  same-length : put-natural-lts.Need-same-length
+      (put-byte-reads.Asked, put-byte-reads.Learnt, put-natural-below t, put-natural.Post) (put-natural-at t) put-natural.Post
   same-length c = c .before .before .put-byte .kept .0
 
-  returns : put-natural-lts.Need-returns (put-byte-reads.Asked, put-byte-reads.Learnt, put-natural-below t, put-natural.Post) (put-natural-at t) put-natural.Post
+  returns : put-natural-lts.Need-returns
+      (put-byte-reads.Asked, put-byte-reads.Learnt, put-natural-below t, put-natural.Post) (put-natural-at t) put-natural.Post
   returns c =
       let b = c .before .before in
       let s = b .before .before .before .before in
       same-text (sym (natural-one (s .args .n) (b .before .before .if1 .taken))) (b .put-byte .ensures)
 
-  same-length-2 : put-natural-lts.Need-same-length-2 (put-byte-reads.Asked, put-byte-reads.Learnt, put-natural-below t, put-natural.Post) (put-natural-at t) put-natural.Post
+  same-length-2 : put-natural-lts.Need-same-length-2
+      (put-byte-reads.Asked, put-byte-reads.Learnt, put-natural-below t, put-natural.Post) (put-natural-at t) put-natural.Post
   same-length-2 c = c .before .before .put-byte2 .kept .0 ∙ c .before .before .before .before .before .before .put-natural .kept .0
 
-  returns-2 : put-natural-lts.Need-returns-2 (put-byte-reads.Asked, put-byte-reads.Learnt, put-natural-below t, put-natural.Post) (put-natural-at t) put-natural.Post
+  returns-2 : put-natural-lts.Need-returns-2
+      (put-byte-reads.Asked, put-byte-reads.Learnt, put-natural-below t, put-natural.Post) (put-natural-at t) put-natural.Post
   returns-2 c =
       let b = c .before .before in
       let p = b .before .before .before .before in
       let s = p .before .before .before .before in
       let more = p .before .before .if1 .left in
-      same-text (sym (natural-more (s .args .n) more)) (then (omega (arith, length-more (s .args .n) more, s .pre .1)) (p .put-natural .ensures) (b .put-byte2 .ensures))
+      same-text (sym (natural-more (s .args .n) more))
+      (then (omega (arith, length-more (s .args .n) more, s .pre .1)) (p .put-natural .ensures) (b .put-byte2 .ensures))
 
 pub +put-natural-spec : {M : Type 1} → statement M
 +put-natural-spec =

@@ -47,7 +47,8 @@ module _ (c : tie.In-loop Inv-loop μ-loop) where
   abbrev i : ℕ
   i = c .before .loop .i
 
-  part : Left (now (start .args .out)) (start .args .at) (from ns 0) (c .before .loop .out) (c .before .loop .next) ((32 ∷ natural (getD ns i 0)) ++ from ns (i + 1))
+  part : Left (now (start .args .out)) (start .args .at) (from ns 0) (c .before .loop .out) (c .before .loop .next)
+      ((32 ∷ natural (getD ns i 0)) ++ from ns (i + 1))
   part = rw (one ns i (c .loop-test .taken)) at (c .before .loop .inv .1)
 
 put-word-requires : tie.Need-put-word-requires Inv-loop μ-loop

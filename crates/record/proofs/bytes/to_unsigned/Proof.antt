@@ -17,7 +17,9 @@ sub-result : tie.Need-sub-result
 sub-result c = search needs
 
 below : (c : tie.Then1) → Low (c .before .before .args .x)
-below c = unsigned-low (c .before .before .args .x) (c .before .before .fits .x .sfits) (lt-true _ _ (simp (toZ-ofZ, c .before .before .fits .x) at (c .if1 .taken)))
+below c =
+    let x = c .before .before in
+    unsigned-low (x .args .x) (x .fits .x .sfits) (lt-true _ _ (simp (toZ-ofZ, x .fits .x) at (c .if1 .taken)))
 
 is : (c : tie.After-magnitude) → c .magnitude .result ≡ natAbs (c .before .args .x)
 is c = c .magnitude .ensures ∙ ap natAbs (toZ-ofZ (c .before .fits .x))

@@ -1,6 +1,6 @@
 -- `record::reader::load_of` meets its contract. Assumes nothing.
 use Rattle.arith.proofs.Machine.{result}
-use Rattle.record.specs.Read.{loadOf}
+use Rattle.record.specs.Contents.{loadOf}
 use borrow.Author.Needs.{needs}
 use Rattle.record.proofs.reader.load_of.Statement.{statement}
 use Rattle.record.proofs.reader.load_of.Tie as tie

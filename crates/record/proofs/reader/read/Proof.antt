@@ -1,5 +1,5 @@
 -- `record::reader::read` meets its contract: at each `return` the answers of the tests say which case of `readOf` holds. Assumes nothing.
-use mathlib.Core.Path.{_≡_, refl, sym, ap, _∙_}
+use mathlib.Core.Path.{_≡_, refl, sym, ap, ap₂, _∙_}
 use mathlib.Core.Bool.{true, false}
 use mathlib.Core.List.{List}
 use Prim.Native.Nat.{ℕ}
@@ -9,52 +9,80 @@ use borrow.Author.Tests.{le-leb, lt-leb}
 use lib.Dec.{leb}
 use lib.ListN.{length}
 use denote.Ref.{now}
+use Rattle.arith.specs.Chain.{orElse}
+use Rattle.arith.proofs.Chain.{first-of}
 use Rattle.arith.proofs.Test.{failed, passed}
-use Rattle.record.specs.Map.{recordLength}
-use Rattle.record.specs.Read.{known, complete, readBy, readOf, sectionOf, loadOf, refused, answered}
-use Rattle.record.proofs.Cases.{too-short, start, chosen, tested, refusal-answered}
+use Rattle.equilibrium.specs.Section.{counted}
+use Rattle.equilibrium.specs.Refusals.{sectionTests, loadTests}
+use Rattle.equilibrium.specs.declared.Section.{Section}
+use Rattle.equilibrium.specs.declared.Load.{Load}
+use Rattle.record.specs.Map.{recordLength, onlyFields, complete}
+use Rattle.record.specs.Refusals.{mapIn}
+use Rattle.record.specs.Read.{refusedReading, readingBy, readOf}
+use Rattle.record.proofs.Readings.{testsOf, chosen, refused-by}
+use Rattle.record.proofs.Ignored.{read-clauses}
 use Rattle.record.proofs.reader.read.Statement.{statement}
 use Rattle.record.proofs.reader.read.Tie as tie
 
--- what is known once the map is read, and after each test that is passed
-module _ (c : tie.After-all-known) where
+-- what is fielded once the map is read, and after each test that is passed
+module _ (c : tie.After-only-fields) where
   abbrev xs : List ℕ
   xs = now (c .before .before .before .before .args .bytes)
 
   abbrev m : ℕ
   m = c .before .big-endian .result
 
-  by-map : readBy xs m ≡ readOf xs
-  by-map = start xs m (c .before .before .if1 .left) (c .before .big-endian .ensures .0)
+  is-map : m ≡ mapIn xs
+  is-map = c .before .big-endian .ensures .0
 
-known-yes : (c : tie.Else2) → known (m (c .before)) 32 ≡ true
-known-yes c = passed (c .before .all-known .ensures) (c .if2 .left)
+  four : true ≡ leb 4 (length xs)
+  four = sym (le-leb 4 (length xs) (c .before .before .if1 .left))
 
-long : (c : tie.Else3) → leb (recordLength (m (c .before .before .before))) (length (xs (c .before .before .before))) ≡ true
+fielded : (c : tie.Else2) → true ≡ onlyFields (m (c .before))
+fielded c = sym (passed (c .before .only-fields .ensures) (c .if2 .left))
+
+long : (c : tie.Else3) → true ≡ leb (recordLength (m (c .before .before .before))) (length (xs (c .before .before .before)))
 long c =
     let k = c .before .before .before in
-    le-leb (recordLength (m k)) (length (xs k)) (omega (arith, c .before .record-length .ensures, c .if3 .left))
+    sym (le-leb (recordLength (m k)) (length (xs k)) (omega (arith, c .before .record-length .ensures, c .if3 .left)))
 
-complete-yes : (c : tie.Else4) → complete (m (c .before .before .before .before .before)) ≡ true
-complete-yes c = passed (c .before .is-complete .ensures) (c .if4 .left)
+all-stand : (c : tie.Else4) → true ≡ complete (m (c .before .before .before .before .before))
+all-stand c = sym (passed (c .before .is-complete .ensures) (c .if4 .left))
 
--- what the tests 1 to 10 answered, and the reading that this gives
-module _ (c : tie.After-refusal) where
-  abbrev map-known : tie.After-all-known
-  map-known = c .before .before .before .before .before .before .before .before
+-- what the tests of the section and the load answered, and the reading that this gives
+module _ (c : tie.After-first-of) where
+  abbrev section-read : tie.After-section-of
+  section-read = c .before .before .before .before
 
-  answers : answered (recordLength (m map-known)) (sectionOf (xs map-known) (m map-known)) (loadOf (xs map-known) (m map-known)) (c .refusal .result) ≡ readOf (xs map-known)
+  abbrev map-known : tie.After-only-fields
+  map-known = section-read .before .before .before .before .before .before
+
+  abbrev s : Section
+  s = section-read .section-of .result
+
+  abbrev l : Load
+  l = c .before .before .before .load-of .result
+
+  tested : c .first-of .result ≡ testsOf s l
+  tested =
+      c .first-of .ensures ∙ ap₂ orElse (c .before .before .section-refusal .ensures) (c .before .load-refusal .ensures)
+      ∙ sym (first-of (sectionTests (counted s)) (loadTests l))
+
+  answers : readingBy (recordLength (m map-known)) s l (c .first-of .result) ≡ readOf (xs map-known)
   answers =
-      let d = c .before .before .before in
-      let l = d .before .before in
-      let r = tested (xs map-known) (m map-known) (c .before .before .section-of .ensures) (c .before .load-of .ensures) (c .refusal .ensures) in
-      chosen (xs map-known) (m map-known) true true true (c .refusal .result) (known-yes (l .before .before)) (long l) (complete-yes d) r ∙ by-map map-known
+      let d = section-read .before in
+      let e = d .before .before in
+      chosen (xs map-known) true true true true (c .first-of .result) (is-map map-known)
+      (section-read .section-of .ensures) (c .before .before .before .load-of .ensures)
+      (four map-known) (fielded (e .before .before)) (long e) (all-stand d) tested
 
 refuse-requires : tie.Need-refuse-requires
 refuse-requires c κs = search needs
 
 returns : tie.Need-returns
-returns c = c .refuse .ensures ∙ too-short _ (c .before .if1 .taken)
+returns c =
+    let xs = now (c .before .before .before .args .bytes) in
+    read-clauses xs (c .refuse .ensures ∙ chosen xs false _ _ _ _ refl refl refl (sym (lt-leb 4 (length xs) (c .before .if1 .taken))) refl refl refl refl)
 
 big-endian-requires : tie.Need-big-endian-requires
 big-endian-requires c κs = search needs
@@ -62,8 +90,8 @@ big-endian-requires c κs = search needs
 cast-map : tie.Need-cast-map
 cast-map c = search needs
 
-all-known-requires : tie.Need-all-known-requires
-all-known-requires c κs = search needs
+only-fields-requires : tie.Need-only-fields-requires
+only-fields-requires c κs = search needs
 
 refuse-requires-2 : tie.Need-refuse-requires-2
 refuse-requires-2 c κs = search needs
@@ -71,7 +99,8 @@ refuse-requires-2 c κs = search needs
 returns-2 : tie.Need-returns-2
 returns-2 c =
     let k = c .before .before in
-    c .refuse2 .ensures ∙ chosen (xs k) (m k) false _ _ _ (failed (k .all-known .ensures) (c .before .if2 .taken)) refl refl refl ∙ by-map k
+    let no = failed (k .only-fields .ensures) (c .before .if2 .taken) in
+    read-clauses (xs k) (c .refuse2 .ensures ∙ chosen (xs k) true false _ _ _ (is-map k) refl refl (four k) (sym no) refl refl refl)
 
 record-length-requires : tie.Need-record-length-requires
 record-length-requires c κs = search needs
@@ -84,7 +113,7 @@ returns-3 c =
     let e = c .before .before .before in
     let k = e .before in
     let short = lt-leb (recordLength (m k)) (length (xs k)) (omega (arith, c .before .before .record-length .ensures, c .before .if3 .taken)) in
-    c .refuse3 .ensures ∙ chosen (xs k) (m k) true false _ _ (known-yes e) short refl refl ∙ by-map k
+    read-clauses (xs k) (c .refuse3 .ensures ∙ chosen (xs k) true true false _ _ (is-map k) refl refl (four k) (fielded e) (sym short) refl refl)
 
 is-complete-requires : tie.Need-is-complete-requires
 is-complete-requires c κs = search needs
@@ -98,8 +127,9 @@ returns-4 c =
     let e = l .before .before in
     let k = e .before in
     let no = failed (c .before .before .is-complete .ensures) (c .before .if4 .taken) in
-    c .refuse4 .ensures ∙ ap (refused 23) (l .before .record-length .ensures)
-    ∙ chosen (xs k) (m k) true true false _ (known-yes e) (long l) no refl ∙ by-map k
+    read-clauses (xs k)
+    (c .refuse4 .ensures ∙ ap (refusedReading 23) (l .before .record-length .ensures)
+    ∙ chosen (xs k) true true true false _ (is-map k) refl refl (four k) (fielded e) (long l) (sym no) refl)
 
 section-of-requires : tie.Need-section-of-requires
 section-of-requires c κs = search needs
@@ -107,26 +137,34 @@ section-of-requires c κs = search needs
 load-of-requires : tie.Need-load-of-requires
 load-of-requires c κs = search needs
 
-refusal-requires : tie.Need-refusal-requires
-refusal-requires c κs = search needs
+section-refusal-requires : tie.Need-section-refusal-requires
+section-refusal-requires c κs = search needs
+
+load-refusal-requires : tie.Need-load-refusal-requires
+load-refusal-requires c κs = search needs
+
+first-of-requires : tie.Need-first-of-requires
+first-of-requires c κs = search needs
+
+cast-refuse : tie.Need-cast-refuse
+cast-refuse c = search needs
 
 refuse-requires-5 : tie.Need-refuse-requires-5
 refuse-requires-5 c κs = search needs
 
 returns-5 : tie.Need-returns-5
 returns-5 c =
-    let r = c .before .before in
-    let l = r .before .before .before .before .before .before in
-    c .refuse5 .ensures ∙ ap (refused (r .refusal .result)) (l .record-length .ensures)
-    ∙ refusal-answered _ _ _ (r .refusal .result) (c .before .if5 .taken) ∙ answers r
+    let f = c .before .before in
+    let n = section-read f .before .before .before .before .record-length .ensures in
+    read-clauses (xs (map-known f))
+    (c .refuse5 .ensures ∙ ap (refusedReading (f .first-of .result)) n
+    ∙ refused-by _ _ _ (f .first-of .result) (c .before .if5 .taken) (tested f) ∙ answers f)
 
 returns-6 : tie.Need-returns-6
 returns-6 c =
-    let r = c .before in
-    let n = r .before .before .before .before .before .before .record-length .ensures in
-    let s = r .before .before .section-of .ensures in
-    let l = r .before .load-of .ensures in
-    rw (n, s, l) (ap (answered _ _ _) (sym (c .if5 .left)) ∙ answers r)
+    let f = c .before in
+    let n = section-read f .before .before .before .before .record-length .ensures in
+    read-clauses (xs (map-known f)) (ap (λ (n : ℕ). readingBy n (s f) (l f) 0) n ∙ ap (readingBy _ (s f) (l f)) (sym (c .if5 .left)) ∙ answers f)
 
 pub read-spec : {M : Type 1} → statement M
 read-spec =
@@ -136,7 +174,7 @@ read-spec =
     returns
     big-endian-requires
     cast-map
-    all-known-requires
+    only-fields-requires
     refuse-requires-2
     returns-2
     record-length-requires
@@ -147,7 +185,10 @@ read-spec =
     returns-4
     section-of-requires
     load-of-requires
-    refusal-requires
+    section-refusal-requires
+    load-refusal-requires
+    first-of-requires
+    cast-refuse
     refuse-requires-5
     returns-5
     returns-6)

@@ -1,6 +1,6 @@
 -- `record::reader::section_of` meets its contract. Assumes nothing.
 use Rattle.arith.proofs.Machine.{result}
-use Rattle.record.specs.Read.{sectionOf}
+use Rattle.record.specs.Contents.{sectionOf}
 use borrow.Author.Needs.{needs}
 use Rattle.record.proofs.reader.section_of.Statement.{statement}
 use Rattle.record.proofs.reader.section_of.Tie as tie
@@ -23,10 +23,13 @@ number-requires-4 c κs = search needs
 returns : tie.Need-returns
 unfolding sectionOf
 returns c =
-    let ls = c .before .before .before .before .before .all-layers in
-    let b = c .before .before .before .number in
-    let h = c .before .before .number2 in
-    let fck = c .before .number3 in
+    let c3 = c .before in
+    let c2 = c3 .before in
+    let c1 = c2 .before in
+    let ls = c1 .before .before .all-layers in
+    let b = c1 .number in
+    let h = c2 .number2 in
+    let fck = c3 .number3 in
     let fyk = c .number4 in
     let e0 = result (b .ok) (b .ensures) in
     let e1 = result (h .ok) (h .ensures) in
@@ -34,7 +37,7 @@ returns c =
     let e3 = result (fyk .ok) (fyk .ensures) in
     let e4 = ls .ensures .0 in
     let e5 = ls .ensures .1 in
-    λ i. record { width = e0 i; height = e1 i; fck = e2 i; fyk = e3 i; count = e4 i; layers = e5 i }
+    λ i. record { layers = e5 i; width = e0 i; height = e1 i; grade = record { fck = e2 i; fyk = e3 i }; count = e4 i }
 
 pub section-of-spec : {M : Type 1} → statement M
 section-of-spec =

@@ -1,52 +1,71 @@
--- `record::writer::field_value` meets its contract. Assumes nothing.
-use mathlib.Core.Path.{ap, sym, _∙_}
-use lib.IntN.{ℤ}
-use Rattle.arith.proofs.Machine.{field}
-use Rattle.equilibrium.specs.Section.{counted}
+-- `record::writer::field_value` meets its contract, arm by arm. Assumes nothing.
+use mathlib.Core.Path.{ap, _∙_}
+use borrow.Author.Tests.{ltb-true}
+use Rattle.arith.proofs.Machine.{result}
 use Rattle.record.specs.Bytes.{bytesOf, unsigned}
-use Rattle.record.specs.Write.{fieldBytes}
-use Rattle.record.proofs.Writing.{OfLayer, of-layer}
 use borrow.Author.Needs.{needs}
 use Rattle.record.proofs.writer.field_value.Statement.{statement}
 use Rattle.record.proofs.writer.field_value.Tie as tie
 
-number-at-requires : tie.Need-number-at-requires
-number-at-requires c κs = search needs
+enum-known-f : tie.Need-enum-known-f
+enum-known-f c = search needs
+
+number-of-requires : tie.Need-number-of-requires
+number-of-requires c κs = search needs
 
 to-unsigned-requires : tie.Need-to-unsigned-requires
 to-unsigned-requires c κs = search needs
 
--- from bit 7 on it is a layer
-layer-here : (c : tie.Else1) → OfLayer (counted (c .before .args .s)) (c .before .args .k)
-layer-here c =
-    let a = c .before .args in
-    of-layer (counted (a .s)) (a .l) (a .k) (c .if1 .left) (c .before .pre .0) (c .before .pre .2)
+enum-known-f-2 : tie.Need-enum-known-f-2
+enum-known-f-2 c = search needs
 
-sub-i : tie.Need-sub-i
-sub-i c = layer-here c .high
+number-of-requires-2 : tie.Need-number-of-requires-2
+number-of-requires-2 c κs = search needs
 
-cast-i : tie.Need-cast-i
-cast-i c = search needs
+to-unsigned-requires-2 : tie.Need-to-unsigned-requires-2
+to-unsigned-requires-2 c κs = search needs
+
+enum-known-f-3 : tie.Need-enum-known-f-3
+enum-known-f-3 c = search needs
 
 layer-value-requires : tie.Need-layer-value-requires
-layer-value-requires c κs = (layer-here c .place, c .before .pre .1)
+layer-value-requires c κs =
+    let s = c .before .before .before in
+    (ltb-true _ _ (rw (c .before .f3 .given .1) at (s .pre .1)), s .pre .0)
+
+enum-told : tie.Need-enum-told
+enum-told c = search needs
 
 returns : tie.Need-returns
-returns c = ap (bytesOf 8) (c .to-unsigned .ensures) ∙ ap (λ (z : ℤ). bytesOf 8 (unsigned z)) (field (c .before .number-at .result) (c .before .number-at .ok)) ∙ c .before .number-at .ensures
+returns c =
+    let n = c .before .number-of in
+    rw (c .before .before .before .f .given .1) (ap (bytesOf 8) (c .to-unsigned .ensures ∙ ap unsigned (result (n .ok) (n .ensures))))
 
 returns-2 : tie.Need-returns-2
 returns-2 c =
-    let a = c .before .before .args in
-    c .layer-value .ensures ∙ ap (fieldBytes (counted (a .s)) (a .l)) (sym (layer-here (c .before) .is))
+    let n = c .before .number-of2 in
+    rw (c .before .before .before .f2 .given .1) (ap (bytesOf 8) (c .to-unsigned2 .ensures ∙ ap unsigned (result (n .ok) (n .ensures))))
+
+returns-3 : tie.Need-returns-3
+returns-3 c = rw (c .before .before .f3 .given .1) (c .layer-value .ensures)
+
+returns-4 : tie.Need-returns-4
+returns-4 c = rw (c .enum-told .given .1)
 
 pub field-value-spec : {M : Type 1} → statement M
 field-value-spec =
     tie.close
     (tie.spec
-    number-at-requires
+    enum-known-f
+    number-of-requires
     to-unsigned-requires
-    sub-i
-    cast-i
+    enum-known-f-2
+    number-of-requires-2
+    to-unsigned-requires-2
+    enum-known-f-3
     layer-value-requires
+    enum-told
     returns
-    returns-2)
+    returns-2
+    returns-3
+    returns-4)

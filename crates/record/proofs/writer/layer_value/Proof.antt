@@ -1,5 +1,4 @@
 -- `record::writer::layer_value` meets its contract. Assumes nothing.
-use Rattle.equilibrium.specs.Section.{layersOf}
 use Rattle.record.proofs.Writing.{layer-packed}
 use borrow.Author.Needs.{needs}
 use Rattle.record.proofs.writer.layer_value.Statement.{statement}
@@ -22,9 +21,7 @@ add-result c = search needs
 
 returns : tie.Need-returns
 returns c =
-    let y = c .before .before .layer-at in
-    let a = c .before .before .before .args in
-    layer-packed (layersOf (a .s)) _ (a .i) (y .result) (y .ensures) (search needs)
+    layer-packed (c .before .before .layer-at .ensures) (search needs)
 
 pub layer-value-spec : {M : Type 1} → statement M
 layer-value-spec =

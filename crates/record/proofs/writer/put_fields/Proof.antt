@@ -10,20 +10,21 @@ use denote.Ref.{now}
 use Rattle.equilibrium.specs.Section.{counted}
 use Rattle.record.specs.Bytes.{placed}
 use Rattle.record.specs.Map.{stands, standing, offset}
-use Rattle.record.specs.Fields.{fieldOf}
-use Rattle.record.specs.Write.{fieldBytes, writes, fieldsTo, fields}
+use Rattle.record.specs.Fields.{width, fieldOf}
+use Rattle.record.specs.Layout.{fieldBytes, writes, fieldsTo, fields}
 use Rattle.record.proofs.Bits.{room, offset-yes, offset-no}
 use Rattle.record.proofs.Lent.{placed-none, placed-more}
 use Rattle.record.proofs.Writing.{stands-written, length-field, fields-yes, fields-no, length-fields}
+use borrow.Author.Needs.{needs}
 use Rattle.record.proofs.writer.put_fields.Statement.{statement}
 use Rattle.record.proofs.writer.put_fields.Tie as tie
 
 abbrev Inv-loop : tie.InvT-loop
 Inv-loop s l map buf₀ at₀ k₀ buf at k =
-    (k ≤ 24) × (at ≡ offset map k) × (length buf ≡ length buf₀) × (buf ≡ placed buf₀ 4 (fieldsTo map (λ k. fieldBytes (counted s) l (fieldOf k)) k))
+    (k ≤ width) × (at ≡ offset map k) × (length buf ≡ length buf₀) × (buf ≡ placed buf₀ 4 (fieldsTo map (λ k. fieldBytes (counted s) l (fieldOf k)) k))
 
 abbrev μ-loop : tie.MeasureT-loop
-μ-loop s l map buf₀ at₀ k₀ buf at k = 24 - k
+μ-loop s l map buf₀ at₀ k₀ buf at k = width - k
 
 loop-holds : tie.Need-loop-holds Inv-loop μ-loop
 unfolding standing fieldsTo
@@ -51,18 +52,23 @@ module _ (c : tie.Then1 Inv-loop μ-loop) where
   has-room : offset (start .args .map) k + 8 ≤ length (now (start .args .buf))
   has-room = room (start .args .map) k (length (now (start .args .buf))) (omega arith) it-stands (start .pre .2)
 
+field-of-requires : tie.Need-field-of-requires Inv-loop μ-loop
+field-of-requires c κs = search needs
+
 field-value-requires : tie.Need-field-value-requires Inv-loop μ-loop
-field-value-requires c κs = (c .before .before .before .loop-test .taken, start (c .before) .pre .0, it-is-written (c .before))
+field-value-requires c κs =
+    let s = start (c .before .before) in
+    (s .pre .0, ap (writes (counted (s .args .s)) (s .args .l)) (c .field-of .ensures) ∙ it-is-written (c .before .before))
 
 put-big-endian-requires : tie.Need-put-big-endian-requires Inv-loop μ-loop
 put-big-endian-requires c κs =
-    let l = c .before .before .before .before .before .loop in
-    omega (arith, has-room (c .before .before), l .inv .1, l .inv .2)
+    let l = c .before .before .before .before .before .before .loop in
+    omega (arith, has-room (c .before .before .before), l .inv .1, l .inv .2)
 
 add-at : tie.Need-add-at Inv-loop μ-loop
 add-at c =
-    let l = c .before .before .before .before .before .before .before .before .loop in
-    omega (arith, has-room (c .before .before .before .before .before), l .inv .1)
+    let l = c .before .before .before .before .before .before .before .before .before .loop in
+    omega (arith, has-room (c .before .before .before .before .before .before), l .inv .1)
 
 add-k : tie.Need-add-k Inv-loop μ-loop
 add-k c = omega arith
@@ -78,17 +84,18 @@ loop-again c =
     let xs = now (s .args .buf) in
     let f : ℕ → List ℕ = λ k. fieldBytes (counted (s .args .s)) (s .args .l) (fieldOf k) in
     let F = fieldsTo m f (l .k) in
-    let n : offset m (l .k) ≡ 4 + length F = ap (λ (n : ℕ). 4 + n) (sym (length-fields m f (λ k. length-field (counted (s .args .s)) (s .args .l) (fieldOf k)) (l .k))) in
+    let eight : (k : ℕ) → length (f k) ≡ 8 = λ k. length-field (counted (s .args .s)) (s .args .l) (fieldOf k) in
+    let n : offset m (l .k) ≡ 4 + length F = ap (λ (n : ℕ). 4 + n) (sym (length-fields m f eight (l .k))) in
     ⊎-elim
     (λ w.
     let t : stands m (l .k) ≡ true = sym (c .before .bit-stands .ensures) ∙ w .0 .taken in
     let low : l .k < 32 = omega arith in
     let fits : 4 + length F ≤ length xs = omega (arith, room m (l .k) (length xs) low t (s .pre .2), n) in (
       omega arith,
-      w .7 ∙ ap (λ (a : ℕ). a + 8) (l .inv .1) ∙ sym (offset-yes m (l .k) t),
-      ap length (w .6) ∙ w .3 .kept .0 ∙ l .inv .2,
-      w .6 ∙ w .3 .ensures
-          ∙ ap (placed (l .buf) (l .at)) (w .2 .ensures)
+      w .8 ∙ ap (λ (a : ℕ). a + 8) (l .inv .1) ∙ sym (offset-yes m (l .k) t),
+      ap length (w .7) ∙ w .4 .kept .0 ∙ l .inv .2,
+      w .7 ∙ w .4 .ensures
+          ∙ ap (placed (l .buf) (l .at)) (w .3 .ensures ∙ ap (fieldBytes (counted (s .args .s)) (s .args .l)) (w .2 .ensures))
           ∙ ap₂ (λ (b : List ℕ) (a : ℕ). placed b a (f (l .k))) (l .inv .3) (l .inv .1 ∙ n)
           ∙ placed-more xs 4 F (f (l .k)) fits
           ∙ ap (placed xs 4) (sym (fields-yes m f (l .k) t)),
@@ -110,8 +117,9 @@ unfolding fields
 returns c =
     let l = c .before .loop in
     let s = c .before .before .before in
-    let end : l .k ≡ 24 = omega arith in
-    l .inv .3 ∙ ap₂ (λ (m k : ℕ). placed (now (s .args .buf)) 4 (fieldsTo m (λ k. fieldBytes (counted (s .args .s)) (s .args .l) (fieldOf k)) k)) (s .pre .1) end
+    let end : l .k ≡ width = omega arith in
+    let f : ℕ → List ℕ = λ k. fieldBytes (counted (s .args .s)) (s .args .l) (fieldOf k) in
+    l .inv .3 ∙ ap₂ (λ (m k : ℕ). placed (now (s .args .buf)) 4 (fieldsTo m f k)) (s .pre .1) end
 
 pub put-fields-spec : {M : Type 1} → statement M
 put-fields-spec =
@@ -121,6 +129,7 @@ put-fields-spec =
     μ-loop
     loop-holds
     bit-stands-requires
+    field-of-requires
     field-value-requires
     put-big-endian-requires
     add-at

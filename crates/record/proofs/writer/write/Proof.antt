@@ -1,39 +1,74 @@
 -- `record::writer::write` meets its contract. Assumes nothing.
-use mathlib.Core.Path.{_≡_, sym, ap, _∙_}
+use mathlib.Core.Path.{_≡_, sym, ap, ap₂, _∙_}
 use mathlib.Core.List.{List}
-use Prim.Native.Nat.{ℕ, _≤_, _<_}
+use Prim.Native.Nat.{ℕ, _^_, _≤_, _<_}
 use native.Mathlib.Omega.{arith}
-use lib.ListN.{length}
+use lib.ListN.{length, length-map}
+use lib.Signed.{mag}
 use denote.Ref.{now}
+use Rattle.arith.specs.Chain.{orElse}
+use Rattle.arith.proofs.Chain.{first-of}
 use Rattle.equilibrium.specs.Section.{counted}
-use Rattle.equilibrium.specs.Load.{refusalOf}
+use Rattle.equilibrium.specs.Refusals.{sectionTests, loadTests}
 use Rattle.record.specs.Bytes.{placed}
 use Rattle.record.specs.Map.{recordLength}
-use Rattle.record.specs.Write.{mapOf, fields}
-use Rattle.record.proofs.Cases.{by-tests, by-length, none, write-refused, write-done}
-use Rattle.record.proofs.Passed.{all-passed}
+use Rattle.record.specs.declared.fields.Number.{Number}
+use Rattle.record.specs.declared.fields.Number.the-variants.{Width, Height, Fck, Fyk, Axial, Moment, Shear}
+use Rattle.record.specs.Layout.{valueOf, mapOf, fields}
+use Rattle.record.proofs.Passed.{Machine, carried}
+use Rattle.record.proofs.Readings.{testsOf}
+use Rattle.record.proofs.RoundTrip.{write-clauses}
+use Rattle.record.proofs.Writes.{by-tests, by-length, done}
 use borrow.Author.Needs.{needs}
 use Rattle.record.proofs.writer.write.Statement.{statement}
 use Rattle.record.proofs.writer.write.Tie as tie
 
-refusal-requires : tie.Need-refusal-requires
-refusal-requires c κs = search needs
+-- what the tests of the section and the load answered
+module _ (c : tie.After-first-of) where
+  abbrev start : tie.Start
+  start = c .before .before .before .before
+
+  number-fits : (x : Number) → mag (valueOf (counted (start .args .s)) (start .args .l) x) < 2 ^ 63
+  number-fits Width = start .good .0 .1 .1 .1 .0 .1
+  number-fits Height = start .good .0 .1 .1 .1 .1 .0 .1
+  number-fits Fck = start .good .0 .1 .1 .1 .1 .1 .0 .1 .1 .0 .1
+  number-fits Fyk = start .good .0 .1 .1 .1 .1 .1 .0 .1 .1 .1 .0 .1
+  number-fits Axial = start .good .1 .0 .1 .1 .0 .1
+  number-fits Moment = start .good .1 .0 .1 .1 .1 .0 .1
+  number-fits Shear = start .good .1 .0 .1 .1 .1 .1 .0 .1
+
+  machine : Machine (start .args .s) (start .args .l)
+  machine = record { places = simp length-map at (start .good .0 .1 .1 .0 .1 .0 .1); numbers = number-fits }
+
+  tested : c .first-of .result ≡ testsOf (start .args .s) (start .args .l)
+  tested =
+      c .first-of .ensures ∙ ap₂ orElse (c .before .before .section-refusal .ensures) (c .before .load-refusal .ensures)
+      ∙ sym (first-of (sectionTests (counted (start .args .s))) (loadTests (start .args .l)))
+
+few-layers : (c : tie.Else1) → start (c .before) .args .s .count ≤ 16
+few-layers c = let a = start (c .before) .args in carried (a .s) (a .l) (machine (c .before)) (sym (tested (c .before)) ∙ c .if1 .left) .few
+
+section-refusal-requires : tie.Need-section-refusal-requires
+section-refusal-requires c κs = search needs
+
+load-refusal-requires : tie.Need-load-refusal-requires
+load-refusal-requires c κs = search needs
+
+first-of-requires : tie.Need-first-of-requires
+first-of-requires c κs = search needs
+
+cast-t10 : tie.Need-cast-t10
+cast-t10 c = search needs
 
 returns : tie.Need-returns
 returns c =
-    let a = c .before .before .before .args in
-    let r = c .before .refusal in
-    write-refused (counted (a .s)) (a .l) (now (a .buf)) (r .result) (c .if1 .taken) (by-tests (counted (a .s)) (a .l) (now (a .buf)) (c .if1 .taken) (r .ensures))
-
--- the tests 1 to 10 are passed
-tests-passed : (c : tie.Else1) → refusalOf (counted (c .before .before .before .args .s)) (c .before .before .before .args .l) ≡ 0
-tests-passed c = sym (c .before .refusal .ensures) ∙ c .if1 .left
-
-few-layers : (c : tie.Else1) → c .before .before .before .args .s .count ≤ 16
-few-layers c = let a = c .before .before .before .args in all-passed (a .s) (a .l) (tests-passed c) .few
+    let f = c .before in
+    let a = start f .args in
+    let w = by-tests (counted (a .s)) (a .l) (now (a .buf)) (c .if1 .taken) (tested f) in
+    write-clauses (a .s) (a .l) (now (a .buf)) (machine f) (w .is) (w .kept)
 
 map-of-requires : tie.Need-map-of-requires
-map-of-requires c κs = few-layers c
+map-of-requires c κs = search needs
 
 record-length-requires : tie.Need-record-length-requires
 record-length-requires c κs = search needs
@@ -41,9 +76,12 @@ record-length-requires c κs = search needs
 returns-2 : tie.Need-returns-2
 returns-2 c =
     let m = c .before .before in
-    let a = m .before .before .before .before .args in
-    let short : length (now (a .buf)) < recordLength (mapOf (counted (a .s)) (a .l)) = rw (← m .map-of .ensures) (omega (arith, c .before .record-length .ensures, c .if2 .taken)) in
-    write-refused (counted (a .s)) (a .l) (now (a .buf)) 25 (λ e. omega arith) (by-length (counted (a .s)) (a .l) (now (a .buf)) (tests-passed (m .before)) short)
+    let f = m .before .before in
+    let a = start f .args in
+    let short : length (now (a .buf)) < recordLength (mapOf (counted (a .s)) (a .l)) =
+    rw (← m .map-of .ensures) (omega (arith, c .before .record-length .ensures, c .if2 .taken)) in
+    let w = by-length (counted (a .s)) (a .l) (now (a .buf)) (sym (m .before .if1 .left) ∙ tested f) short in
+    write-clauses (a .s) (a .l) (now (a .buf)) (machine f) (w .is) (w .kept)
 
 cast-put-big-endian : tie.Need-cast-put-big-endian
 cast-put-big-endian c = search needs
@@ -64,23 +102,26 @@ same-length c = search needs
 
 returns-3 : tie.Need-returns-3
 returns-3 c =
-    let f = c .before .before in
-    let b = f .before .before .before .before in
+    let p = c .before .before in
+    let b = p .before .before .before .before in
     let e = b .before .before in
     let m = e .before .before in
-    let a = m .before .before .before .before .args in
-    let xs = now (a .buf) in
-    let long : recordLength (mapOf (counted (a .s)) (a .l)) ≤ length xs = rw (← m .map-of .ensures) (omega (arith, e .before .record-length .ensures, e .if2 .left)) in
-    let done =
-    write-done (counted (a .s)) (a .l) xs (m .map-of .result) (e .before .record-length .result) (m .map-of .ensures) (e .before .record-length .ensures)
-    (none (counted (a .s)) (a .l) xs (tests-passed (m .before)) long) (omega (arith, e .before .record-length .ensures, e .if2 .left)) in
-    (done .0, f .put-fields .ensures ∙ ap (λ (ys : List ℕ). placed ys 4 (fields (counted (a .s)) (a .l))) (b .put-big-endian .ensures) ∙ done .1)
+    let f = m .before .before in
+    let a = start f .args in
+    let w =
+    done (counted (a .s)) (a .l) (now (a .buf)) (m .map-of .result) (e .before .record-length .result) (m .map-of .ensures) (e .before .record-length .ensures)
+    (sym (m .before .if1 .left) ∙ tested f) (e .if2 .left) in
+    write-clauses (a .s) (a .l) (now (a .buf)) (machine f) (w .is)
+    (p .put-fields .ensures ∙ ap (λ (ys : List ℕ). placed ys 4 (fields (counted (a .s)) (a .l))) (b .put-big-endian .ensures) ∙ w .bytes)
 
 pub write-spec : {M : Type 1} → statement M
 write-spec =
     tie.close
     (tie.spec
-    refusal-requires
+    section-refusal-requires
+    load-refusal-requires
+    first-of-requires
+    cast-t10
     returns
     map-of-requires
     record-length-requires

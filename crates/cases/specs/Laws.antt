@@ -1,0 +1,96 @@
+-- What the documents say of the definitions and no contract says: each a law, in full. A law that is taken away or weakened in its crate
+-- fails here. Assumes nothing.
+use Prim.Native.Nat.{ℕ, _+_, _*_, _^_, _≤_, _<_}
+use mathlib.Core.List.{List, [], _++_}
+use mathlib.Core.Path.{_≡_}
+use lib.IntN.{ℤ}
+use lib.ListN.{length}
+use Rattle.arith.specs.Greatest.{IsGreatest}
+use Rattle.equilibrium.specs.declared.Layer.{Layer}
+use Rattle.equilibrium.specs.declared.Section.{Section}
+use Rattle.equilibrium.specs.declared.Load.{Load}
+use Rattle.equilibrium.specs.declared.Design.{Design}
+use Rattle.equilibrium.specs.declared.Accepted.the-variants.{Ready}
+use Rattle.equilibrium.specs.Section.{layersOf, Counted, counted}
+use Rattle.equilibrium.specs.Code.Usable.{Usable}
+use Rattle.equilibrium.specs.Refusals.{accepted, carries}
+use Rattle.equilibrium.specs.Turned.{turned}
+use Rattle.equilibrium.specs.Depth.{findDepth}
+use Rattle.equilibrium.specs.Moment.{momentAt}
+use Rattle.equilibrium.proofs.Usable.{usable-by}
+use Rattle.equilibrium.proofs.Found as equilibrium
+use Rattle.equilibrium.proofs.DepthOne as depthOne
+use Rattle.clauses.specs.Tension.{tensionLayers, As, dm}
+use Rattle.clauses.specs.SizeFactor.{K}
+use Rattle.clauses.specs.Shear.{rTest, r, qTest, q}
+use Rattle.clauses.specs.Check.{checkOf}
+use Rattle.clauses.specs.Refusals.{facing}
+use Rattle.clauses.proofs.Checking.{usable-facing}
+use Rattle.clauses.proofs.Laws as clauses
+use Rattle.record.specs.Map.{recordLength}
+use Rattle.record.specs.Layout.{mapOf, recordOf}
+use Rattle.record.specs.Write.{writtenOf, bufferOf}
+use Rattle.record.proofs.Laws as records
+use Rattle.listing.specs.Records.{GoesOn, listOf}
+use Rattle.listing.specs.Program.{firstLine, tooLong, printedOf}
+use Rattle.listing.proofs.Laws as listing
+
+-- ---- "Sections that differ only there count as the same": places beyond the counted layers
+
+pub beyond-find : (s t : Section) (N : ℤ) → counted s ≡ counted t → findDepth s N ≡ findDepth t N
+beyond-find = equilibrium.beyond-find
+
+pub beyond-moment : (s t : Section) (u : ℕ) → counted s ≡ counted t → momentAt s u ≡ momentAt t u
+beyond-moment = equilibrium.beyond-moment
+
+pub beyond-check : (s t : Section) (load : Load) → counted s ≡ counted t → checkOf s load ≡ checkOf t load
+beyond-check = clauses.beyond-check
+
+pub beyond-written : (s t : Section) (load : Load) (buf : List ℕ) → counted s ≡ counted t → writtenOf (counted s) load buf ≡ writtenOf (counted t) load buf
+beyond-written = records.beyond-written
+
+pub beyond-bytes : (s t : Section) (load : Load) (buf : List ℕ) → counted s ≡ counted t → bufferOf (counted s) load buf ≡ bufferOf (counted t) load buf
+beyond-bytes = records.beyond-bytes
+
+-- ---- of the layers of an accepted section, for either face
+
+-- they are usable, which is what the laws below ask
+pub usable-faces : (s : Section) {x : Design} (M : ℤ) → accepted (counted s) ≡ Ready x → Usable x (s .count) (facing M (x .h) (layersOf s))
+usable-faces s M e = usable-facing M (layersOf s) (usable-by s e)
+
+-- test 11 says the same of both faces
+pub one-turned : {x : Design} {n : ℕ} (ls : List Layer) (N : ℤ) → Usable x n ls → carries x (turned (x .h) ls) N 1 ≡ carries x ls N 1
+one-turned = depthOne.one-turned
+
+-- r and q are the greatest of all numbers that pass their tests, not only up to a bound
+pub r-greatest : {x : Design} {n : ℕ} (ls : List Layer) → Usable x n ls → (u : ℕ) → 1 ≤ As u ls
+    → IsGreatest (rTest (x .b) (x .m .fck) (As u ls) (dm u ls)) (r (x .b) (x .m .fck) (As u ls) (dm u ls))
+r-greatest = clauses.r-greatest
+
+pub q-greatest : {x : Design} {n : ℕ} (ls : List Layer) → Usable x n ls → (u : ℕ) → IsGreatest (qTest (x .m .fck) (K (dm u ls))) (q (x .m .fck) (K (dm u ls)))
+q-greatest = clauses.q-greatest
+
+-- As is 0 only with no tension layer
+pub no-tension : {x : Design} {n : ℕ} (ls : List Layer) → Usable x n ls → (u : ℕ) → As u ls ≡ 0 → tensionLayers u ls ≡ []
+no-tension = clauses.no-tension
+
+-- ---- records and their list
+
+-- "The length is 4 plus 8 times the number of bits that stand": that of the bytes
+pub record-length : (c : Counted) (load : Load) → length (recordOf c load) ≡ recordLength (mapOf c load)
+record-length = records.record-length
+
+-- what is read of an input that is not empty, and then, unless the list ends, the readings of what follows the record
+pub goes-on : (xs : List ℕ) → 0 < length xs → GoesOn xs
+goes-on = listing.goes-on
+
+-- no list is longer than 12 bytes for each byte of input and 48
+pub list-most : (xs : List ℕ) → length xs < 2 ^ 64 → length (listOf xs) ≤ 12 * length xs + 48
+list-most = listing.list-most
+
+-- what the program prints, for at most 65,536 bytes and above
+pub printed-list : (xs : List ℕ) → length xs ≤ 65536 → printedOf xs ≡ firstLine ++ listOf xs
+printed-list = listing.printed-list
+
+pub printed-26 : (xs : List ℕ) → 65536 < length xs → printedOf xs ≡ firstLine ++ tooLong
+printed-26 = listing.printed-26

@@ -1,0 +1,57 @@
+-- Laws of the clauses that documents cite and no contract needs. Assumes nothing.
+use Prim.Native.Nat.{ℕ, _*_, _≤_}
+use mathlib.Core.Bool.{true}
+use mathlib.Core.List.{List, []}
+use mathlib.Core.Path.{_≡_}
+use native.Mathlib.Nat.{mul-le-mul, mul-le-mul-left, le-div-iff-mul-le}
+use native.Mathlib.Omega.{arith}
+use Rattle.arith.specs.Every.{every}
+use Rattle.arith.specs.Greatest.{IsGreatest}
+use Rattle.equilibrium.specs.declared.Layer.{Layer}
+use Rattle.equilibrium.specs.declared.Section.{Section}
+use Rattle.equilibrium.specs.declared.Load.{Load}
+use Rattle.equilibrium.specs.declared.Design.{Design}
+use Rattle.equilibrium.specs.Section.{depthOk, counted}
+use Rattle.equilibrium.specs.Code.Usable.{Usable}
+use Rattle.equilibrium.proofs.OneLayer.{layer-low}
+use Rattle.clauses.specs.Tension.{tensionLayers, total, areaOf, firstMoment, meanDepth, As, dm}
+use Rattle.clauses.specs.SizeFactor.{K}
+use Rattle.clauses.specs.Shear.{rTest, r, qTest, q}
+use Rattle.clauses.specs.Code.Ranges.{StressBounds}
+use Rattle.clauses.specs.Check.{checkOf}
+use Rattle.clauses.proofs.Layers.{total-le, all-tension, mean-is, counts, As-high, dm-high}
+use Rattle.clauses.proofs.Layers as layers
+use Rattle.clauses.proofs.Roots as roots
+use Rattle.clauses.proofs.Roots.{K-high}
+
+-- the mean depth of layers whose depths and areas are at least 1 is at least 1
+mean-low : (h : ℕ) (ts : List Layer) → every (depthOk h) ts ≡ true → 1 ≤ areaOf ts → 1 ≤ meanDepth ts
+mean-low h ts e low =
+    let each : (l : Layer) → depthOk h l ≡ true → l .area ≤ 1 * (l .area * l .depth) = λ l d. omega (arith, mul-le-mul-left (l .area) (layer-low h l d)) in
+    let most : areaOf ts ≤ firstMoment ts = omega (arith, total-le (depthOk h) (λ l. l .area) (λ l. l .area * l .depth) 1 each ts e) in
+    rw (mean-is ts) (le-div-iff-mul-le low .1 (omega arith))
+
+-- ---- r and q are the greatest of all numbers that pass: of every layers of an accepted section, at every depth with a tension layer
+
+module _ {x : Design} {n : ℕ} (ls : List Layer) (w : Usable x n ls) (u : ℕ) where
+  stress : StressBounds (x .b) (x .m .fck) (As u ls) (dm u ls)
+  stress =
+      let c = counts ls w in
+      record { b-high = w .bounded .b-high; fck-high = w .bounded .materials .fck-high; As-high = As-high ls c u; dm-high = dm-high ls c u }
+
+  pub r-greatest : 1 ≤ As u ls → IsGreatest (rTest (x .b) (x .m .fck) (As u ls) (dm u ls)) (r (x .b) (x .m .fck) (As u ls) (dm u ls))
+  r-greatest some =
+      let mean = mean-low (x .h) (tensionLayers u ls) (all-tension u (depthOk (x .h)) ls (w .depths)) some in
+      let b : 1 ≤ x .b = omega (arith, w .bounded .b-low) in
+      roots.r-greatest (x .b) (x .m .fck) (As u ls) (dm u ls) stress (mul-le-mul b mean)
+
+  pub q-greatest : IsGreatest (qTest (x .m .fck) (K (dm u ls))) (q (x .m .fck) (K (dm u ls)))
+  q-greatest = roots.q-greatest (x .m .fck) (K (dm u ls)) (w .bounded .materials .fck-high) (K-high (dm u ls))
+
+-- As is 0 only where no layer is in tension
+pub no-tension : {x : Design} {n : ℕ} (ls : List Layer) → Usable x n ls → (u : ℕ) → As u ls ≡ 0 → tensionLayers u ls ≡ []
+no-tension ls w u z = layers.no-tension u ls (w .areas) z
+
+-- places beyond the count: sections that differ only there have one answer
+pub beyond-check : (s t : Section) (load : Load) → counted s ≡ counted t → checkOf s load ≡ checkOf t load
+beyond-check s t load e = rw e

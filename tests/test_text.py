@@ -1,0 +1,417 @@
+"""make-record and show-record: the text form, its units, its columns and its messages."""
+
+import os
+import pty
+import subprocess
+
+import second
+from running import (EXAMPLES, PATIENCE, SECTION_A_BYTES, SECTION_A_TEXT, TOP, CommandTest, command, run)
+
+
+class TextTest(CommandTest):
+    """A text that is right, and one that is wrong."""
+
+    def made(self, text, *arguments):
+        """The records of a text that has to be right."""
+        status, records, message = run("make-record", *arguments, given=text)
+        self.assertEqual((status, message), (0, ""))
+        return records
+
+    def refused(self, text, *parts):
+        """A text that has to be wrong: nothing written, a message with the parts."""
+        status, records, message = run("make-record", given=text)
+        self.assertEqual((status, records), (1, b""))
+        self.says(message, *parts)
+
+    def same(self, *texts):
+        """Texts that mean section A."""
+        for text in texts:
+            with self.subTest(text=text):
+                self.assertEqual(self.made(text), SECTION_A_BYTES)
+
+
+class Records(TextTest):
+    """Text to records."""
+
+    def test_section_a_is_the_papers_60_bytes(self):
+        self.assertEqual(len(SECTION_A_BYTES), 60)
+        self.same(SECTION_A_TEXT)
+
+    def test_writing_styles_that_mean_the_same(self):
+        self.same("300;500;30;500;0;200_000_000;80_000;450/1500",
+                  "# a remark\n\n  300 500 30 500 - 200000000 +80000 450/1500 # another\r\n",
+                  "300\t500\t30\t500\t0\t200000000\t80000\t450/1500\t# a tab before a remark",
+                  "\ufeff" + SECTION_A_TEXT)
+
+    def test_records_follow_one_another(self):
+        self.assertEqual(self.made(SECTION_A_TEXT * 3), SECTION_A_BYTES * 3)
+
+    def test_no_section_no_bytes(self):
+        self.assertEqual(self.made("# nothing but a remark\n\n;;;;;;;;\n"), b"")
+
+    def test_zero_loads_are_left_out(self):
+        self.assertEqual(self.made("300 500 30 500 0 0 0 450/1500")[:4].hex(), "0000010f")
+        self.assertEqual(self.made("300 500 30 500 1kN 0 -1kN 450/1500")[:4].hex(), "0000015f")
+
+    def test_a_dash_leaves_out_any_field(self):
+        self.assertEqual(self.made("- - - - - - -"), bytes(4))
+        self.assertEqual(self.made("300 - 30 500 - - - 450/1500")[:4].hex(), "0000010d")
+
+    def test_what_the_engine_refuses_can_still_be_written(self):
+        record = self.made("0 -1 31 9223372036854775807 -9223372036854775808 0 0 0/4294967295")
+        self.assertEqual(record.hex(), "0000011f" "0000000000000000" "ffffffffffffffff"
+                         "000000000000001f" "7fffffffffffffff" "8000000000000000"
+                         "00000000" "ffffffff")
+
+    def test_sixteen_layers_fit_and_seventeen_do_not(self):
+        start = "300 500 30 500 0 0 0"
+        self.assertEqual(self.made(start + " 450/100" * 16)[:4].hex(), "00ffff0f")
+        self.refused(start + " 450/100" * 17, "line 1, column 24", "layer 17", "16")
+
+    def test_files_in_sequence_and_a_missing_one(self):
+        example = EXAMPLES / "section-a.txt"
+        self.assertEqual(self.made("", example, example), SECTION_A_BYTES * 2)
+        status, records, message = run("make-record", example, TOP / "no-such-file.txt")
+        self.assertEqual((status, records), (1, b""))
+        self.says(message, "no-such-file.txt", "No such file")
+
+    def test_a_dash_is_standard_input(self):
+        self.assertEqual(self.made(SECTION_A_TEXT, EXAMPLES / "section-a.txt", "-"), SECTION_A_BYTES * 2)
+
+
+class Units(TextTest):
+    """Suffixes: exact, or refused."""
+
+    def test_each_unit_is_converted_exactly(self):
+        self.same("300 500 30 500 0 200kNm 80kN 450/1500",
+                  "300mm 50cm 30 500 0kN 0.2MNm 0.08MN 45cm/15cm2",
+                  "0.3m 0.5m 30MPa 500N/mm2 0N 200000000Nmm 80000N 0.45m/1500mm2",
+                  "30cm;0.5 m;30;500;;200 kNm;80 kN;450mm/15cm2",
+                  "30.0cm 500 30 500 0 +200.000_000kNm 80kN 450/1500".replace("_", ""),
+                  "300 500 30 500 0 200kN·m 80kN 450/15cm²")
+
+    def test_negative_and_small_fractions(self):
+        record = self.made("300 500 30 500 -1.5kN -0.000001kNm -0.001kN 450/1500")
+        reading = second.read_record(record)
+        self.assertEqual(reading.load, second.Load(-1_500, -1, -1))
+
+    def test_what_is_not_whole_in_the_records_unit(self):
+        for word, place in (("0.5mm 500 30 500 0 0 0", "column 1 (b)"), ("300 50.05cm 30 500 0 0 0", "column 2 (h)"),
+                            ("300 500 30 500 0.0001kN 0 0", "column 5 (N)"), ("300 500 30 500 0 1.5Nmm 0", "column 6 (M)"),
+                            ("300 500 30 500 0 0 0.5N", "column 7 (V)"), ("300 500 30 500 0 0 0 450/0.001cm2", "column 8")):
+            with self.subTest(word=word):
+                self.refused(word, "line 1", place, "not whole")
+
+    def test_decimals_need_a_unit(self):
+        self.refused("300 500 30 500 0 1.5 0 450/1500", "column 6 (M)", "'1.5'", "no unit", "kNm")
+        self.refused("300.0 500 30 500 0 0 0 450/1500", "column 1 (b)", "no unit")
+
+    def test_a_unit_of_another_quantity(self):
+        for line, place in (("300kN 500 30 500 0 0 0", "column 1 (b)"), ("300 500 30 500 0 80kN 0", "column 6 (M)"),
+                            ("300 500 30 500 5kNm 0 0", "column 5 (N)"), ("300 500 30kN 500 0 0 0", "column 3 (fck)"),
+                            ("300 500 30 500 0 0 0 450/15cm", "column 8"), ("300 500 30 500 0 0 5Kn", "column 7 (V)")):
+            with self.subTest(line=line):
+                self.refused(line, place, "no unit of this column", "expected")
+
+    def test_a_unit_that_stands_alone(self):
+        self.refused("300 500 30 500 0 200 kNm 80 kN 450/1500", "column 7 (V)", "directly after its number")
+        self.refused("300 500 30 500 0 N 80000 N 450/1500", "column 6 (M)")
+
+    def test_bars_are_rounded_down_once(self):
+        for word, area in (("450/3x16", 603), ("450/1x8", 50), ("450/16x8", 804), ("45cm/5x20", 1570), ("450/2x32", 1608)):
+            with self.subTest(word=word):
+                record = self.made("300 500 30 500 0 0 0 " + word)
+                self.assertEqual(second.read_record(record).section.layers[0], second.Layer(450, area))
+        self.assertIn("rounded down", run("make-record", "--help")[1].decode())
+
+    def test_bars_that_are_none(self):
+        for word in ("450/3x", "450/x16", "450/3x16x2", "450/3x1.6", "450/3×16"):
+            with self.subTest(word=word):
+                self.refused("300 500 30 500 0 0 0 " + word, "column 8", "expected")
+
+    def test_loads_in_likely_the_wrong_unit_get_a_note(self):
+        status, records, message = run("make-record", given="300 500 30 500 0 200 80 450/1500\n" * 2)
+        self.assertEqual((status, len(records)), (0, 120))
+        self.says(message, "note", "line 1, column 6 (M)", "200 N·mm", "200kNm")
+        self.assertEqual(message.count("\n"), 1)
+
+
+class Columns(TextTest):
+    """Empty cells, commas and titles."""
+
+    def test_empty_cells_are_missing_values(self):
+        for line in ("300;500;30;500;;200000000;80000;450/1500", "300,500,30,500,,200000000,80000,450/1500",
+                     "300\t500\t30\t500\t\t200000000\t80000\t450/1500", "300; 500; 30; 500; ; 200000000; 80000;; 450/1500;;",
+                     "300 , 500, 30, 500,, 200000000, 80000,, 450/1500,"):
+            self.same(line)
+
+    def test_an_empty_first_or_last_cell_moves_nothing(self):
+        for line in (";500;30;500;0;200000000;;450/1500", ",500,30,500,0,200000000,,450/1500",
+                     "\t500\t30\t500\t0\t200000000\t\t450/1500"):
+            with self.subTest(line=line):
+                self.assertEqual(self.made(line)[:4].hex(), "0000012e")
+        self.assertEqual(self.made("300\t500\t30\t500\t0\t0\t\t")[:4].hex(), "0000000f")
+
+    def test_a_comma_parts_only_where_nothing_else_does(self):
+        self.same("300,500,30,500,0,200000000,80000,450/1500", "300, 500, 30, 500, 0, 200kNm, 80kN, 450/1500")
+        self.refused("300 500 30 500 0 200,000,000 0 450/1500", "column 6 (M)", "comma")
+        self.refused("300;500;30;500;0;200,000,000;0;450/1500", "column 6 (M)", "comma")
+        self.refused("300,500,30,500,0,200,000,000,80000,450/1500", "column 8 (layer)", "commas part this line")
+
+    def test_a_blank_within_a_cell_is_no_separator(self):
+        self.refused("300;500;30;500;0;200 000 000;0;450/1500", "column 6 (M)", "one number")
+        self.refused("300\t500 30 500 0 200000000 80000 450/1500", "column 2 (h)", "one number")
+        self.refused("300 500 30 500 0 200\u00a0000\u00a0000 0 450/1500", "column 6 (M)", "U+00A0")
+
+    def test_titles_in_any_sequence(self):
+        self.same("V;M;N;fyk;fck;h;b;layers\n80000;200000000;;500;30;500;300;450/1500\n",
+                  "Name,layers,b,h,fck,fyk,N,M,V\nBeam 1,450/1500,300,500,30,500,0,200000000,80000\n",
+                  "b h fck fyk N M V layers\n" + SECTION_A_TEXT,
+                  "# remark\nB\tH\tFCK\tFYK\tn\tm\tv\tlayer 1\tlayer 2\n300\t500\t30\t500\t\t200kNm\t80kN\t450/1500\t\n",
+                  '"b","h","fck","fyk","N","M","V","d/A"\n"300","500","30","500","","200000000","80000","450/1500"\n')
+
+    def test_several_layers_below_titles(self):
+        two = self.made("300 500 30 500 0 0 0 50/400 450/1500")
+        for text in ("b,h,fck,fyk,N,M,V,layers\n300,500,30,500,,,,50/400 450/1500",
+                     "b;h;fck;fyk;N;M;V;layers;;Remark\n300;500;30;500;;;;50/400;450/1500;edge",
+                     "b;h;fck;fyk;N;M;V;layers\n300;500;30;500;;;;50/400;450/1500",
+                     "b;layer 1;h;layer 2;fck;fyk;N;M;V\n300;50/400;500;450/1500;30;500;;;",
+                     "b h fck fyk N M V d/A ...\n300 500 30 500 - - - 50/400 450/1500"):
+            with self.subTest(text=text):
+                self.assertEqual(self.made(text), two)
+
+    def test_units_in_titles(self):
+        self.same("b [cm];h [m];fck [N/mm²];fyk (MPa);N [kN];M [kNm];V (kN);layers\n30;0.5;30;500;;200;80;450/1500",
+                  "b;h;fck;fyk;N;M [kNm];V;layers\n300;500;30;500;;200;80kN;450/1500",
+                  "b;h;fck;fyk;N;M [kNm];V;layers\n300;500;30;500;;0.2MNm;80kN;450/1500")
+        self.refused("b;h;fck;fyk;N;M [kN];V;layers\n", "line 1, column 6", "'M [kN]'", "kNm")
+
+    def test_titles_that_would_lose_a_column(self):
+        self.refused("b;h;fck;fyk;N;M;VEd;layers\n300;500;30;500;0;0;0;450/1500", "line 1", "0 titles 'V'")
+        self.refused("b;h;fck;fyk;N;M;V;M;layers\n300;500;30;500;0;0;0;0;450/1500", "line 1, column 8", "2 titles 'M'")
+        self.refused("b;h;fck;fyk;N;M;V\n300;500;30;500;0;0;0", "line 1", "'layers'")
+        self.refused("b h fck fyk N M V layers name\n300 500 30 500 0 0 0 450/1500 50/400", "line 1, column 9", "last")
+        self.refused("b;h;fck;fyk;N;M;V;layers;name\n300;500;30;500;0;0;0;450/1500;x;50/400", "line 2", "column 10", "no title")
+
+    def test_a_line_that_ends_too_early(self):
+        self.refused("300 500 30 500 0 0", "line 1, column 7 (V)", "expected 7 cells")
+        self.refused("Name;b;h;fck;fyk;N;M;V;layers\nBeam #1;300;500;30;500;0;0;0;450/1500", "line 2 'Beam'", "column 2 (b)")
+
+    def test_the_name_of_a_line_is_in_its_messages(self):
+        self.refused("Name;b;h;fck;fyk;N;M;V;layers\nBeam 7;300;500;30;500;0;2e8;0;450/1500",
+                     "line 2 'Beam 7', column 7 (M)", "'2e8'")
+
+    def test_quotes_that_do_not_match(self):
+        self.refused('300;500;"30;500;0;0;0;450/1500', "line 1, column 3", "quotes")
+
+
+class Messages(TextTest):
+    """File, line, column, and what was expected."""
+
+    def test_messages_name_line_column_and_what_was_expected(self):
+        for line, *parts in (("300 500 30 500 0 2e8 0 450/1500", "column 6 (M)", "'2e8'", "whole number of N·mm"),
+                             ("300 500 30 500 0 0 0 450", "column 8 (layer)", "'450' is no layer", "450/1500"),
+                             ("300 500 30 500 0 0 0 450/1500/2", "column 8 (layer)", "450/3x16"),
+                             ("300 500 30 500 0 0 0 450/", "column 8 (layer)", "whole number of mm²"),
+                             ("300 500 thirty 500 0 0 0 450/1500", "column 3 (fck)", "'thirty'", "N/mm²")):
+            with self.subTest(line=line):
+                self.refused(SECTION_A_TEXT + "# remark\n" + line + "\n", "standard input, line 3", "expected", *parts)
+
+    def test_messages_name_the_file(self):
+        path = self.file("beams.csv", "300,500,30,500,0,0,x,450/1500\n")
+        status, records, message = run("make-record", path)
+        self.assertEqual((status, records), (1, b""))
+        self.says(message, "beams.csv, line 1, column 7 (V): 'x'")
+
+    def test_what_a_record_cannot_carry(self):
+        for line, what in (("9223372036854775808 500 30 500 0 0 0 450/1500", "column 1 (b)"),
+                           ("300 500 30 500 -9223372036854775809 0 0 450/1500", "column 5 (N)"),
+                           ("300 500 30 500 0 0 0 4294967296/1500", "column 8"),
+                           ("300 500 30 500 0 0 0 450/1500 50/-1", "column 9"),
+                           ("300 500 30 500 0 99999999999999MNm 0", "column 6 (M)"),
+                           ("300 500 30 500 0 0 0 450/99999x99999", "column 8")):
+            with self.subTest(line=line):
+                self.refused(line, "line 1", what, "does not fit a record")
+        self.refused("300 500 30 500 0 0 " + "9" * 5_000 + " 450/1500", "column 7 (V)", "5000 characters")
+
+    def test_every_wrong_line_is_named_and_no_right_one(self):
+        status, records, message = run("make-record", given="x\n" + SECTION_A_TEXT + "y\n")
+        self.assertEqual((status, records), (1, b""))
+        self.assertEqual([line.split(", ")[1] for line in message.splitlines()], ["line 1", "line 3"])
+
+    def test_a_unicode_minus_gets_a_hint(self):
+        self.refused("300 500 30 500 \u22121000 0 0 450/1500", "column 5 (N)", "minus", "U+2212")
+
+    def test_text_that_is_not_utf_8(self):
+        self.refused(SECTION_A_TEXT.encode() + b"300 5\xff0 30 500 0 0 0 450/1500", "line 2, column 2 (h)", "FF", "UTF-8")
+        self.refused(SECTION_A_TEXT.encode("utf-16"), "line 1, column 1", "UTF-8", "expected")
+        self.assertEqual(self.made(b"# Tr\xe4ger\n" + SECTION_A_TEXT.encode()), SECTION_A_BYTES)
+
+    def test_records_in_place_of_text(self):
+        self.refused(SECTION_A_BYTES, "line 1, column 1", "show-record")
+
+    def test_control_characters_are_not_echoed(self):
+        self.refused("300 500 30 \x1b[31m500 0 0 0 450/1500", "column 4 (fyk)", "\\x1b")
+        self.refused("300 500 30 500 0 0 0 4\x0050/1500\u202e", "column 8")
+        status, _, message = run("make-record", "--no-\x1b[31m")
+        self.assertEqual(status, 2)
+        self.says(message, "\\x1b")
+        status, _, message = run("make-record", os.fsencode(self.folder) + b"/\x1b[31m\xff")
+        self.assertEqual(status, 1)
+        self.says(message, "No such file", "\\x1b")
+
+    def test_an_ascii_locale(self):
+        ascii_only = {**os.environ, "LC_ALL": "C", "PYTHONUTF8": "0", "PYTHONCOERCECLOCALE": "0"}
+        for tool in ("make-record", "show-record", "check-list"):
+            status, text, message = run(tool, "--help", env=ascii_only)
+            self.assertEqual((status, message), (0, ""))
+            self.assertIn("usage", text.decode())
+        status, text, _ = run("show-record", given=SECTION_A_BYTES, env=ascii_only)
+        self.assertEqual((status, "N/mm²" in text.decode()), (0, True))
+        self.says(run("make-record", given="300 500 30 500 \u22121 0 0", env=ascii_only)[2], "N", "U+2212")
+
+
+class Help(TextTest):
+    """--help, arguments that are none, and a terminal."""
+
+    def test_help(self):
+        for tool, part in (("make-record", "kNm"), ("show-record", "make-record"), ("check-list", "--text"),
+                           ("build-library", "libsalwoerk.so")):
+            status, text, message = run(tool, "--help")
+            self.assertEqual((status, message), (0, ""))
+            self.assertIn(part, text.decode())
+
+    def test_arguments_that_are_not_understood(self):
+        for tool, *arguments in (("make-record", "--spilt", "x"), ("show-record", "--text"), ("check-list", "--list"),
+                                 ("check-list", "one", "two"), ("build-library", "here")):
+            with self.subTest(tool=tool):
+                status, text, message = run(tool, *arguments, given=SECTION_A_TEXT)
+                self.assertEqual((status, text), (2, b""))
+                self.says(message, tool, "--help")
+
+    def test_a_terminal_is_told_what_is_awaited(self):
+        for tool, part in (("make-record", "b h fck fyk N M V"), ("show-record", "records"), ("check-list", "records")):
+            ours, terminal = pty.openpty()
+            try:
+                os.write(ours, b"\x04")
+                done = subprocess.run(command(tool), stdin=terminal, capture_output=True, timeout=PATIENCE, check=False)
+            finally:
+                os.close(ours)
+                os.close(terminal)
+            self.assertEqual(done.returncode, 0)
+            self.says(done.stderr.decode(), "awaiting", part)
+            self.assertEqual(done.stderr.count(b"\n"), 1)
+
+    def test_no_binary_to_a_terminal(self):
+        ours, terminal = pty.openpty()
+        try:
+            status, _, message = run("make-record", given=SECTION_A_TEXT, stdout=terminal)
+            os.set_blocking(ours, False)
+            with self.assertRaises(BlockingIOError):  # nothing was written to it
+                os.read(ours, 1)
+        finally:
+            os.close(ours)
+            os.close(terminal)
+        self.assertEqual(status, 1)
+        self.says(message, "terminal")
+
+
+class Split(TextTest):
+    """More than the list program takes at once."""
+
+    def test_more_than_the_list_program_takes_is_noted(self):
+        status, records, message = run("make-record", given=SECTION_A_TEXT * 1_093)
+        self.assertEqual((status, len(records)), (0, 65_580))
+        self.says(message, "65536", "--split")
+
+    def test_split_writes_whole_records(self):
+        prefix = self.folder / "lot-"
+        said = self.made(SECTION_A_TEXT * 11_000, "--split", prefix).decode().splitlines()
+        files = sorted(self.folder.iterdir())
+        self.assertEqual([path.name for path in files], [f"lot-{number:02}" for number in range(1, 12)])
+        self.assertEqual(said[1], f"{files[1]}: records 1093 to 2184")
+        self.assertEqual(b"".join(path.read_bytes() for path in files), SECTION_A_BYTES * 11_000)
+        for path in files:
+            self.assertEqual(path.stat().st_size % 60, 0)
+            self.assertLessEqual(path.stat().st_size, 65_536)
+
+    def test_split_spares_what_is_there(self):
+        prefix = self.folder / "lot-"
+        kept = self.file("lot-2", "kept")
+        status, text, message = run("make-record", "--split", prefix, given=SECTION_A_TEXT * 1_093)
+        self.assertEqual((status, text), (1, b""))
+        self.says(message, "lot-2")
+        self.assertEqual([(path.name, path.read_bytes()) for path in self.folder.iterdir()], [("lot-2", b"kept")])
+        self.assertEqual(kept.read_bytes(), b"kept")
+
+    def test_split_of_nothing_or_nowhere(self):
+        self.assertEqual(self.made("# remark\n", "--split", self.folder / "lot-"), b"")
+        self.assertEqual(list(self.folder.iterdir()), [])
+        status, _, message = run("make-record", "--split", self.folder / "none" / "lot-", given=SECTION_A_TEXT)
+        self.assertEqual(status, 1)
+        self.says(message, "No such file")
+
+
+class ShowRecord(TextTest):
+    """Records to text, and back."""
+
+    def lines(self, records):
+        """The lines of text that are no remarks."""
+        status, text, message = run("show-record", given=records)
+        self.assertEqual((status, message), (0, ""))
+        return [line.split() for line in text.decode().splitlines() if not line.startswith("#")]
+
+    def back(self, records):
+        """The records after one way through text."""
+        return self.made(run("show-record", given=records)[1])
+
+    def test_section_a(self):
+        self.assertEqual(self.lines(SECTION_A_BYTES), [SECTION_A_TEXT.split()])
+
+    def test_no_record_no_line(self):
+        self.assertEqual(self.lines(b""), [])
+
+    def test_what_make_record_wrote_comes_back_byte_by_byte(self):
+        several = self.made("", EXAMPLES / "several.txt")
+        extremes = self.made("- 9223372036854775807 -1 0 -9223372036854775808 1kNm -1kN 4294967295/0 0/4294967295\n"
+                             "- - - - - - -\n")
+        for records in (SECTION_A_BYTES, several, extremes):
+            self.assertEqual(self.back(records), records)
+
+    def test_gaps_and_present_zeros_keep_their_meaning(self):
+        section = second.section_of(300, 500, 30, 500, [(50, 400), (450, 1_500)])
+        fields = second.fields_written(section, second.Load(0, 7_000_000, 0))
+        first, next_one, *_, last = second.LAYER_BITS
+        spread = {**fields, 4: bytes(8), 6: bytes(8), last: fields[next_one]}
+        del spread[next_one]
+        record = second.assemble(spread)
+        again = self.back(record)
+        self.assertNotEqual(again, record)
+        self.assertEqual(second.read_record(again).load, second.read_record(record).load)
+        self.assertEqual(second.read_record(again).section, section)
+
+    def test_broken_records_are_named_after_the_whole_ones(self):
+        for broken, fault in ((b"\0\0", "2 bytes are left"), (SECTION_A_BYTES[:59], "calls for 60 bytes; 59 are left"),
+                              (bytes.fromhex("00000080"), "bit 7"), (bytes.fromhex("81000000"), "bit 24, 31")):
+            with self.subTest(broken=broken.hex()):
+                status, text, message = run("show-record", given=SECTION_A_BYTES + broken)
+                self.assertEqual(status, 1)
+                self.says(message, "record 2, from byte 60", fault)
+                self.assertEqual(text.decode().splitlines()[-1].split(), SECTION_A_TEXT.split())
+
+
+class Examples(TextTest):
+    """The example files, through the second implementation."""
+
+    def answers(self, name):
+        """What the list says of each record of an example."""
+        return second.list_text(self.made("", EXAMPLES / name)).splitlines()[1:]
+
+    def test_section_a_prints_the_papers_line(self):
+        self.assertEqual(self.answers("section-a.txt"), ["1 0 1358 257986051 86851 450 1500 0 0 0 0 0"])
+
+    def test_several_has_one_refusal_as_its_remark_says(self):
+        self.assertEqual([line.split()[1] for line in self.answers("several.txt")], ["0"] * 6 + ["3"])
+
+    def test_the_export_of_a_spreadsheet(self):
+        self.assertEqual(self.answers("beams.csv"), self.answers("several.txt")[:5])

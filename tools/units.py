@@ -1,0 +1,111 @@
+"""Numbers of the text form: a word, with its unit or without, as a whole number of the record's unit, exactly."""
+
+import re
+from fractions import Fraction
+from typing import NamedTuple
+
+from streams import Complaint, shown
+
+
+class Quantity(NamedTuple):
+    """What a column holds. A unit counts so many of the record's unit, which is the unit of a plain number."""
+
+    record_unit: str
+    units: dict
+    doubtful: int = 0  # a plain number nearer to 0 than this was likely meant in another unit
+
+    @property
+    def expected(self):
+        """What a cell of such a column may be."""
+        return f"a whole number of {self.record_unit}, or a number with its unit ({', '.join(self.units)})"
+
+    def factor(self, unit):
+        """How many of the record's unit a unit counts; 'kN·m' and 'mm²' are kNm and mm2."""
+        return self.units.get(unit.replace("·", "").replace("²", "2"))
+
+
+LENGTH = Quantity("mm", {"mm": 1, "cm": 10, "m": 1_000})
+AREA = Quantity("mm²", {"mm2": 1, "cm2": 100})
+STRENGTH = Quantity("N/mm²", {"N/mm2": 1, "MPa": 1})
+FORCE = Quantity("N", {"N": 1, "kN": 1_000, "MN": 1_000_000}, doubtful=1_000)
+MOMENT = Quantity("N·mm", {"Nmm": 1, "kNm": 1_000_000, "MNm": 1_000_000_000}, doubtful=100_000)
+
+NUMBER = re.compile(r"([+-]?[0-9]+(?:_[0-9]+)*)(\.[0-9]+)? *([A-Za-z].*)?", re.ASCII)
+BARS = re.compile(r"([0-9]{1,5})x([0-9]{1,5})", re.ASCII)
+LONGEST = 60  # characters of a word; no number that fits a record needs as many
+PI = 3_14159_26535_89793_23846_26433_83279_50288_41971, 10**40
+UNITS = {unit for quantity in (LENGTH, AREA, FORCE, MOMENT) for unit in quantity.units}
+
+
+def hint(word):
+    """Why a word that looks like a number is none."""
+    odd = next((sign for sign in word if not 32 <= ord(sign) < 127), None)
+    if odd is not None and 0xDC80 <= ord(odd) <= 0xDCFF:
+        return f"; byte {ord(odd) - 0xDC00:02X} is not text in UTF-8"
+    if odd is not None and odd in "\u2010\u2011\u2012\u2013\u2014\u2212":
+        return f"; the minus is '-', and not U+{ord(odd):04X}"
+    if odd is not None:
+        return f"; U+{ord(odd):04X} belongs to no number"
+    if len(word) > LONGEST:
+        return f"; no number of a record has {len(word)} characters"
+    if "," in word:
+        return "; a comma may mean thousands or decimals: write 200000000, 200_000_000 or 1.5kN"
+    if word in UNITS:
+        return "; a unit stands directly after its number, as in 80kN"
+    if " " in word:
+        return "; a cell holds one number, and this line is parted by ';', tabs or commas"
+    return ""
+
+
+def whole(word, quantity, bounds, unit=""):
+    """The number of the record's unit that a word stands for; `unit` is that of the column, if its title has one."""
+    match = NUMBER.fullmatch(word) if len(word) <= LONGEST else None
+    if not match:
+        raise Complaint(f"'{shown(word)}' is no number; expected {quantity.expected}{hint(word)}")
+    digits, decimals, suffix = match.groups()
+    named = suffix or unit
+    factor = quantity.factor(named) if named else 1
+    if factor is None:
+        raise Complaint(f"'{shown(word)}' has no unit of this column; expected {quantity.expected}")
+    if decimals and not named:
+        raise Complaint(f"'{shown(word)}' has decimals and no unit; expected {quantity.expected}")
+    number = Fraction(digits.replace("_", "") + (decimals or "")) * factor
+    if number.denominator != 1:
+        raise Complaint(f"'{shown(word)}' is not whole in {quantity.record_unit}; expected {quantity.expected}")
+    least, most = bounds
+    if not least <= number <= most:
+        raise Complaint(f"'{shown(word)}' does not fit a record; expected {least} to {most} {quantity.record_unit}")
+    return int(number)
+
+
+def is_doubtful(word, quantity, number):
+    """A load without a unit that is next to nothing in the record's unit."""
+    return word[-1:].isdigit() and 0 < abs(number) < quantity.doubtful
+
+
+def area_of_bars(count, diameter):
+    """The area of so many bars by π·d²/4, the sum rounded down to whole mm²."""
+    digits, scale = PI
+    return count * diameter**2 * digits // (4 * scale)
+
+
+def area_of(word, bounds):
+    """An area, or bars as in 3x16."""
+    bars = BARS.fullmatch(word)
+    if not bars:
+        return whole(word, AREA, bounds)
+    area = area_of_bars(int(bars[1]), int(bars[2]))
+    if area > bounds[1]:
+        raise Complaint(f"'{word}' does not fit a record; expected an area up to {bounds[1]} mm²")
+    return area
+
+
+def layer_of(word, bounds):
+    """Depth and area of the word d/A."""
+    parts = word.split("/")
+    if len(parts) != 2:
+        raise Complaint(f"'{shown(word)}' is no layer; expected depth/area such as 450/1500, or depth/bars such as 450/3x16")
+    try:
+        return whole(parts[0], LENGTH, bounds), area_of(parts[1], bounds)
+    except Complaint as complaint:
+        raise Complaint(f"of the layer '{shown(word)}', {complaint}") from None
