@@ -136,7 +136,8 @@ times : (t : Bool) (a d : ℕ) → cond t (a * d) 0 ≡ cond t a 0 * d
 times true a d = refl
 times false a d = omega arith
 
-pub sum-step : {u : ℕ} {ls zs ys : List Layer} {l : Layer} {area moment a m : ℕ} → zs ≡ l ∷ ys → a ≡ cond (inTension u l) (l .area) 0 → m ≡ a * l .depth →
+pub sum-step : {u : ℕ} {ls zs ys : List Layer} {l : Layer} {area moment a m : ℕ} → zs ≡ l ∷ ys → a ≡ cond (inTension u l) (l .area) 0
+    → m ≡ a * l .depth →
     Summed u ls zs area moment → Summed u ls ys (area + a) (moment + m)
 unfolding total
 sum-step {u} {ls} {zs} {ys} {l} {area} {moment} {a} nx e f inv = record {

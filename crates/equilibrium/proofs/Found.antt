@@ -59,7 +59,8 @@ module _ (s : Section) (u : ℕ) where
   moment-clauses e = (e, rw e moment-numbered)
 
   -- at a depth of the range
-  moment-is : {x : Design} → accepted (counted s) ≡ section.Ready x → 1 ≤ u → u ≤ 10 * x .h → momentFound (momentAt s u) ≡ momentResistance x (layersOf s) u
+  moment-is : {x : Design} → accepted (counted s) ≡ section.Ready x → 1 ≤ u → u ≤ 10 * x .h
+      → momentFound (momentAt s u) ≡ momentResistance x (layersOf s) u
   moment-is {x} e low high = ap momentFound (moment-ready e) ∙ simp (le-leb 1 u low, le-leb u (10 * x .h) high)
 
 -- ---- the promise of the depth for a face

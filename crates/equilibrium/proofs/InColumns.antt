@@ -43,7 +43,8 @@ module _ (ds bs : List ℕ) where
   area-any n = area-from n 0
 
 -- a sum f of naturals over the layers, taken so far to `sum`: with the next layer, and at the end
-pub sum-next : (f : List Layer → ℕ) {total : ℕ} {zs ys : List Layer} {l : Layer} (sum t : ℕ) → zs ≡ l ∷ ys → f (l ∷ ys) ≡ t + f ys → sum + f zs ≡ total
+pub sum-next : (f : List Layer → ℕ) {total : ℕ} {zs ys : List Layer} {l : Layer} (sum t : ℕ) → zs ≡ l ∷ ys → f (l ∷ ys) ≡ t + f ys
+    → sum + f zs ≡ total
     → sum + t + f ys ≡ total
 sum-next f {ys = ys} sum t nx e h = add-assoc sum t (f ys) ∙ ap (λ (n : ℕ). sum + n) (sym e) ∙ (rw nx at h)
 

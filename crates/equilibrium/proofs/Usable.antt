@@ -17,7 +17,7 @@ use Rattle.arith.proofs.Test.{both-true}
 use Rattle.materials.specs.Answer as materials
 use Rattle.materials.proofs.Promise.{promise}
 use Rattle.materials.specs.declared.Answer.{Answer}
-use Rattle.materials.specs.declared.Answer.the-variants as answered
+use Rattle.materials.specs.declared.Answer.the-variants as looked
 use Rattle.materials.specs.declared.Materials.{Materials}
 use Rattle.equilibrium.specs.declared.Layer.{Layer}
 use Rattle.equilibrium.specs.declared.Section.{Section}
@@ -61,8 +61,8 @@ section-one-of c =
     test-one-of 7 (all areaOk (c .layers)) (record { member = tt }) (record { member = tt }))))))
   where
     grade-refused : (a : Answer) → materials.Promised (c .grade) a → OneOf (0 ∷ sectionRefusals) (materials.refusalNumber a)
-    grade-refused (answered.Known m) p = record { member = tt }
-    grade-refused (answered.Refused k) p = among (0 ∷ sectionRefusals) materials.gradeRefusals tt p
+    grade-refused (looked.Known m) p = record { member = tt }
+    grade-refused (looked.Refused k) p = among (0 ∷ sectionRefusals) materials.gradeRefusals tt p
 
 -- ---- their promise
 
@@ -81,8 +81,8 @@ promised : (c : Counted) (k : ℕ) (a : Answer) → length (c .layers) ≤ c .co
     → materials.Promised (c .grade) a
     → PromisedSection c (acceptedAs k c a)
 promised c (suc k) a most e m p = some-one-of (suc k) (subst (OneOf (0 ∷ sectionRefusals)) e (section-one-of c)) (omega arith)
-promised c zero (answered.Refused k) most e m p = among sectionRefusals materials.gradeRefusals tt p
-promised c zero (answered.Known g) most e m p =
+promised c zero (looked.Refused k) most e m p = among sectionRefusals materials.gradeRefusals tt p
+promised c zero (looked.Known g) most e m p =
     let n = none-fails c e in
     let b = natural 50 2000 (c .width) (n .width) in
     let h = natural 50 2000 (c .height) (n .height) in
@@ -108,8 +108,8 @@ usable-by s e = (rw e at (section-promise s)) .usable
 numbered : (c : Counted) (k : ℕ) (a : Answer) → firstFailing (sectionTests c) ≡ k → materials.materialsOf (c .grade) ≡ a → materials.Promised (c .grade) a
     → refusalNumber (acceptedAs k c a) ≡ k
 numbered c (suc k) a e m p = refl
-numbered c zero (answered.Known g) e m p = refl
-numbered c zero (answered.Refused k) e m p =
+numbered c zero (looked.Known g) e m p = refl
+numbered c zero (looked.Refused k) e m p =
     let z : k ≡ 0 = rw m at (none-fails c e .grade) in
     z
 
@@ -125,27 +125,27 @@ accept-clauses s e = (e, (rw e (section-refusal (counted s)), rw e (section-prom
 -- ---- the answers of `accept`, where b and h pass: the materials' refusal, the layers', or none
 
 module _ (c : Counted) (width : inRange (pos 50) (pos 2000) (c .width) ≡ true) (height : inRange (pos 50) (pos 2000) (c .height) ≡ true) where
-  pub by-materials : {k : ℕ} → materials.materialsOf (c .grade) ≡ answered.Refused k → Refused k ≡ accepted c
+  pub by-materials : {k : ℕ} → materials.materialsOf (c .grade) ≡ looked.Refused k → Refused k ≡ accepted c
   unfolding accepted sectionTests
   by-materials {k} e =
       let low : 1 ≤ k = above-zero materials.gradeRefusals tt (rw e at (promise (c .grade))) in
       rw (width, height, e, or-first k (firstFailing (layerTests (natAbs (c .height)) (c .count) (c .layers))) low) (go k)
     where
-      go : (k : ℕ) → Refused k ≡ acceptedAs k c (answered.Refused k)
+      go : (k : ℕ) → Refused k ≡ acceptedAs k c (looked.Refused k)
       go zero = refl
       go (suc k) = refl
 
-  by-layers : {m : Materials} → materials.materialsOf (c .grade) ≡ answered.Known m
-      → acceptedAs (firstFailing (layerTests (natAbs (c .height)) (c .count) (c .layers))) c (answered.Known m) ≡ accepted c
+  by-layers : {m : Materials} → materials.materialsOf (c .grade) ≡ looked.Known m
+      → acceptedAs (firstFailing (layerTests (natAbs (c .height)) (c .count) (c .layers))) c (looked.Known m) ≡ accepted c
   unfolding accepted sectionTests
   by-layers e = rw (width, height, e)
 
-  module _ {m : Materials} {k : ℕ} (known : materials.materialsOf (c .grade) ≡ answered.Known m)
+  module _ {m : Materials} {k : ℕ} (known : materials.materialsOf (c .grade) ≡ looked.Known m)
       (layers : k ≡ firstFailing (layerTests (natAbs (c .height)) (c .count) (c .layers))) where
     pub layers-refused : (k ≡ 0 → ⊥) → Refused k ≡ accepted c
     layers-refused some = go k some ∙ rw layers (by-layers known)
       where
-        go : (k : ℕ) → (k ≡ 0 → ⊥) → Refused k ≡ acceptedAs k c (answered.Known m)
+        go : (k : ℕ) → (k ≡ 0 → ⊥) → Refused k ≡ acceptedAs k c (looked.Known m)
         go zero some = absurd (some refl)
         go (suc k) some = refl
 
@@ -232,7 +232,8 @@ all-passed s l e =
 -- ---- one layer, and what is left after it
 
 -- the layer at a counted place
-pub layer-at-ok : {x : Design} {count : ℕ} (ls : List Layer) (i : ℕ) {ys : List Layer} {l : Layer} → Usable x count ls → drop i ls ≡ l ∷ ys → LayerOk (x .h) l
+pub layer-at-ok : {x : Design} {count : ℕ} (ls : List Layer) (i : ℕ) {ys : List Layer} {l : Layer} → Usable x count ls → drop i ls ≡ l ∷ ys
+    → LayerOk (x .h) l
 layer-at-ok {x} ls i {l} w nx = layer-ok (x .h) l (all-at (depthOk (x .h)) i ls (w .depths) nx) (all-at areaOk i ls (w .areas) nx)
 
 -- no layer is deeper than h: what nearness takes of the layers

@@ -62,7 +62,8 @@ pub finished : {xs ys whole : List ℕ} {at j : ℕ} → Left xs at whole ys j [
 finished {xs} {ys} {whole} {at} {j} l = record { end = omega (arith, l .end); bytes = placed-none ys j ∙ l .bytes }
 
 -- where there is room for the whole there is room for the next part
-pub has-room : {xs ys whole : List ℕ} {at j : ℕ} (s t : List ℕ) → at + length whole ≤ length xs → Left xs at whole ys j (s ++ t) → j + length s ≤ length ys
+pub has-room : {xs ys whole : List ℕ} {at j : ℕ} (s t : List ℕ) → at + length whole ≤ length xs → Left xs at whole ys j (s ++ t)
+    → j + length s ≤ length ys
 has-room s t h l = omega (arith, l .end, l .size, length-append s t)
 
 pub next-in : {xs ys zs whole : List ℕ} {at j k : ℕ} {s : List ℕ} (t : List ℕ) → at + length whole ≤ length xs

@@ -43,7 +43,8 @@ first-or-rest p k strength first {class} rest true same here later r =
     rw (k-is, ← class-is) here
 first-or-rest p k strength first rest false same here later r = later r
 
-pub found : (p : ℕ → Class → Bool) (k : ℕ) (entries : List Entry) {class : Class} → T (every (passes p) entries) → find k entries ≡ Found class → T (p k class)
+pub found : (p : ℕ → Class → Bool) (k : ℕ) (entries : List Entry) {class : Class} → T (every (passes p) entries)
+    → find k entries ≡ Found class → T (p k class)
 found p k [] all q = absurd (let z : _≡_ {A = ℕ} 0 1 = cc in omega arith)
 found p k (entry strength first ∷ entries) all q =
     let here = and-yes (p strength first) (every (passes p) entries) all in

@@ -19,7 +19,8 @@ unfolding placed
 length-placed xs at ys h = simp (length-append, length-drop, length-take-le at xs (omega arith)) (omega arith)
 
 -- two writes one after the other are one
-pub placed-more : (xs : List ℕ) (at : ℕ) (ys zs : List ℕ) → at + length ys ≤ length xs → placed (placed xs at ys) (at + length ys) zs ≡ placed xs at (ys ++ zs)
+pub placed-more : (xs : List ℕ) (at : ℕ) (ys zs : List ℕ) → at + length ys ≤ length xs
+    → placed (placed xs at ys) (at + length ys) zs ≡ placed xs at (ys ++ zs)
 unfolding placed
 placed-more xs at ys zs h =
     let P = take at xs ++ ys in

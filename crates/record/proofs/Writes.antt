@@ -70,7 +70,8 @@ module _ (c : Counted) (l : Load) (buf : List ℕ) where
     pub is : _≡_ {A = Written} (record { refusal = 0; length = n }) (writtenOf c l buf)
     pub bytes : after ≡ bufferOf c l buf
 
-  pub done : (m n : ℕ) → m ≡ mapOf c l → n ≡ recordLength m → 0 ≡ k → n ≤ length buf → WriteDone n (placed (placed buf 0 (bytesOf 4 m)) 4 (fields c l))
+  pub done : (m n : ℕ) → m ≡ mapOf c l → n ≡ recordLength m → 0 ≡ k → n ≤ length buf
+      → WriteDone n (placed (placed buf 0 (bytesOf 4 m)) 4 (fields c l))
   done m n em en e h =
       let fits : recordLength (mapOf c l) ≤ length buf = rw (sym em) (omega arith) in
       let z = sym (no-refusal e fits) in
