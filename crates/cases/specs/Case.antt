@@ -11,20 +11,20 @@ use Rattle.materials.specs.declared.Answer.the-variants as materials
 use Rattle.materials.specs.declared.Grade.{Grade}
 use Rattle.materials.specs.declared.Materials.{Materials}
 use Rattle.materials.specs.Answer.{materialsOf}
-use Rattle.equilibrium.specs.declared.Layer.{Layer}
-use Rattle.equilibrium.specs.declared.Section.{Section}
-use Rattle.equilibrium.specs.declared.Load.{Load}
-use Rattle.equilibrium.specs.declared.Accepted.{Accepted}
-use Rattle.equilibrium.specs.declared.Accepted.the-variants as section
-use Rattle.equilibrium.specs.Section.{layersOf, counted}
-use Rattle.equilibrium.specs.Refusals as sections
+use Rattle.section.specs.declared.Layer.{Layer}
+use Rattle.section.specs.declared.Section.{Section}
+use Rattle.section.specs.declared.Load.{Load}
+use Rattle.section.specs.declared.Accepted.{Accepted}
+use Rattle.section.specs.declared.Accepted.the-variants as section
+use Rattle.section.specs.Section.{layersOf, counted}
+use Rattle.section.specs.Refusals as sections
 use Rattle.equilibrium.specs.Force.{at, internalForce, steelResistance}
-use Rattle.equilibrium.specs.Turned.{turned}
+use Rattle.section.specs.Turned.{turned}
 use Rattle.equilibrium.specs.Depth as depth
 use Rattle.equilibrium.specs.Moment as moment
+use Rattle.shear.specs.SizeFactor.{K}
+use Rattle.shear.specs.Shear.{r, q}
 use Rattle.clauses.specs.Tension.{As, dm}
-use Rattle.clauses.specs.SizeFactor.{K}
-use Rattle.clauses.specs.Shear.{r, q}
 use Rattle.clauses.specs.declared.Listed.{Listed}
 use Rattle.clauses.specs.Check.{listed, checkOf}
 

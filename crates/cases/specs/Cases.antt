@@ -14,18 +14,19 @@ use Rattle.materials.specs.declared.Grade.{Grade}
 use Rattle.materials.specs.Strength.{depthFactor, strengthFactor, L, f, g, s}
 use Rattle.materials.specs.Situation.{persistent}
 use Rattle.materials.specs.Answer.{materialsIn, materialsOf, opened}
-use Rattle.equilibrium.specs.declared.Section.{Section}
-use Rattle.equilibrium.specs.declared.Load.{Load}
-use Rattle.equilibrium.specs.Section.{noLayer}
+use Rattle.section.specs.declared.Section.{Section}
+use Rattle.section.specs.declared.Load.{Load}
+use Rattle.section.specs.Section.{noLayer}
 use Rattle.equilibrium.specs.Force.{at, concreteForce, stress, layerForce, steelForce, internalForce}
 use Rattle.equilibrium.specs.Force.{concreteMoment, layerMoment, steelResistance, momentResistance}
-use Rattle.equilibrium.specs.Refusals.{sectionTests, accepted, carries, reaches}
-use Rattle.equilibrium.specs.Turned.{turned}
+use Rattle.section.specs.Refusals.{sectionTests, accepted}
+use Rattle.equilibrium.specs.Refusals.{carries, reaches}
+use Rattle.section.specs.Turned.{turned}
 use Rattle.equilibrium.specs.Depth.{depthIn}
 use Rattle.equilibrium.specs.Moment.{momentIn}
-use Rattle.clauses.specs.SizeFactor.{K}
+use Rattle.shear.specs.SizeFactor.{K}
+use Rattle.shear.specs.Shear.{r, q, v, c, concreteShare, axialShare, VRdc}
 use Rattle.clauses.specs.Tension.{tensionLayers, total, meanDepth}
-use Rattle.clauses.specs.Shear.{r, q, v, c, concreteShare, axialShare, VRdc}
 use Rattle.clauses.specs.declared.Listed.{Listed}
 use Rattle.clauses.specs.Check.{refusedListed, reportAt, checkIn}
 use Rattle.cases.specs.Case.{Case, Case.material, Case.noMaterial, Case.tests, Case.force, Case.found, Case.resists, Case.turnedSteel}

@@ -6,23 +6,24 @@ use mathlib.Core.Path.{_≡_}
 use lib.IntN.{ℤ}
 use lib.ListN.{length}
 use Rattle.arith.specs.Greatest.{IsGreatest}
-use Rattle.equilibrium.specs.declared.Layer.{Layer}
-use Rattle.equilibrium.specs.declared.Section.{Section}
-use Rattle.equilibrium.specs.declared.Load.{Load}
-use Rattle.equilibrium.specs.declared.Design.{Design}
-use Rattle.equilibrium.specs.declared.Accepted.the-variants.{Ready}
-use Rattle.equilibrium.specs.Section.{layersOf, Counted, counted}
-use Rattle.equilibrium.specs.Code.Usable.{Usable}
-use Rattle.equilibrium.specs.Refusals.{accepted, carries}
-use Rattle.equilibrium.specs.Turned.{turned}
+use Rattle.section.specs.declared.Layer.{Layer}
+use Rattle.section.specs.declared.Section.{Section}
+use Rattle.section.specs.declared.Load.{Load}
+use Rattle.section.specs.declared.Design.{Design}
+use Rattle.section.specs.declared.Accepted.the-variants.{Ready}
+use Rattle.section.specs.Section.{layersOf, Counted, counted}
+use Rattle.section.specs.Code.Usable.{Usable}
+use Rattle.section.specs.Refusals.{accepted}
+use Rattle.equilibrium.specs.Refusals.{carries}
+use Rattle.section.specs.Turned.{turned}
 use Rattle.equilibrium.specs.Depth.{findDepth}
 use Rattle.equilibrium.specs.Moment.{momentAt}
-use Rattle.equilibrium.proofs.Usable.{usable-by}
+use Rattle.section.proofs.Usable.{usable-by}
 use Rattle.equilibrium.proofs.Found as equilibrium
 use Rattle.equilibrium.proofs.DepthOne as depthOne
+use Rattle.shear.specs.SizeFactor.{K}
+use Rattle.shear.specs.Shear.{rTest, r, qTest, q}
 use Rattle.clauses.specs.Tension.{tensionLayers, As, dm}
-use Rattle.clauses.specs.SizeFactor.{K}
-use Rattle.clauses.specs.Shear.{rTest, r, qTest, q}
 use Rattle.clauses.specs.Check.{checkOf}
 use Rattle.clauses.specs.Refusals.{facing}
 use Rattle.clauses.proofs.Checking.{usable-facing}

@@ -8,23 +8,24 @@ use lib.IntN.{ℤ, pos}
 use lib.Signed.{leZ}
 use Rattle.arith.specs.Chain.{orElse, firstFailing}
 use Rattle.arith.proofs.Chain.{first-of}
-use Rattle.equilibrium.specs.declared.Layer.{Layer}
-use Rattle.equilibrium.specs.declared.Section.{Section}
-use Rattle.equilibrium.specs.declared.Load.{Load}
-use Rattle.equilibrium.specs.declared.Design.{Design}
-use Rattle.equilibrium.specs.declared.Accepted.{Accepted}
-use Rattle.equilibrium.specs.declared.Accepted.the-variants as section
+use Rattle.section.specs.declared.Layer.{Layer}
+use Rattle.section.specs.declared.Section.{Section}
+use Rattle.section.specs.declared.Load.{Load}
+use Rattle.section.specs.declared.Design.{Design}
+use Rattle.section.specs.declared.Accepted.{Accepted}
+use Rattle.section.specs.declared.Accepted.the-variants as section
 use Rattle.equilibrium.specs.declared.Depth.{Depth}
 use Rattle.equilibrium.specs.declared.Depth.the-variants as depth
-use Rattle.equilibrium.specs.Section.{layersOf, counted}
-use Rattle.equilibrium.specs.Refusals.{accepted, loadTests, faceTests, answer}
-use Rattle.equilibrium.specs.Code.Usable.{Usable}
-use Rattle.equilibrium.specs.Turned.{turned}
+use Rattle.section.specs.Section.{layersOf, counted}
+use Rattle.section.specs.Refusals.{accepted, loadTests, answer}
+use Rattle.equilibrium.specs.Refusals.{faceTests}
+use Rattle.section.specs.Code.Usable.{Usable}
+use Rattle.section.specs.Turned.{turned}
 use Rattle.equilibrium.specs.Depth.{depthAnswer, depthFor}
 use Rattle.equilibrium.specs.Accuracy.{Accurate, PromisedDepth}
-use Rattle.equilibrium.proofs.Usable.{usable-by, call-refused, call-ready, call-numbered}
+use Rattle.section.proofs.Usable.{usable-by, call-refused, call-ready, call-numbered}
 use Rattle.equilibrium.proofs.Found.{depth-promise}
-use Rattle.equilibrium.proofs.Turned.{usable-turned}
+use Rattle.section.proofs.Turned.{usable-turned}
 use Rattle.clauses.specs.declared.Checked.{Checked}
 use Rattle.clauses.specs.declared.Checked.the-variants.{Done, Refused}
 use Rattle.clauses.specs.Refusals.{facing, compressedTests, checkTests}

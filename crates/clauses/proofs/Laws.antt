@@ -7,22 +7,22 @@ use native.Mathlib.Nat.{mul-le-mul, mul-le-mul-left, le-div-iff-mul-le}
 use native.Mathlib.Omega.{arith}
 use Rattle.arith.specs.Every.{every}
 use Rattle.arith.specs.Greatest.{IsGreatest}
-use Rattle.equilibrium.specs.declared.Layer.{Layer}
-use Rattle.equilibrium.specs.declared.Section.{Section}
-use Rattle.equilibrium.specs.declared.Load.{Load}
-use Rattle.equilibrium.specs.declared.Design.{Design}
-use Rattle.equilibrium.specs.Section.{depthOk, counted}
-use Rattle.equilibrium.specs.Code.Usable.{Usable}
-use Rattle.equilibrium.proofs.OneLayer.{layer-low}
+use Rattle.section.specs.declared.Layer.{Layer}
+use Rattle.section.specs.declared.Section.{Section}
+use Rattle.section.specs.declared.Load.{Load}
+use Rattle.section.specs.declared.Design.{Design}
+use Rattle.section.specs.Section.{depthOk, counted}
+use Rattle.section.specs.Code.Usable.{Usable}
+use Rattle.section.proofs.OneLayer.{layer-low}
+use Rattle.shear.specs.SizeFactor.{K}
+use Rattle.shear.specs.Shear.{rTest, r, qTest, q}
+use Rattle.shear.specs.Code.Ranges.{StressBounds}
+use Rattle.shear.proofs.Roots as roots
+use Rattle.shear.proofs.Roots.{K-high}
 use Rattle.clauses.specs.Tension.{tensionLayers, total, areaOf, firstMoment, meanDepth, As, dm}
-use Rattle.clauses.specs.SizeFactor.{K}
-use Rattle.clauses.specs.Shear.{rTest, r, qTest, q}
-use Rattle.clauses.specs.Code.Ranges.{StressBounds}
 use Rattle.clauses.specs.Check.{checkOf}
 use Rattle.clauses.proofs.Layers.{total-le, all-tension, mean-is, counts, As-high, dm-high}
 use Rattle.clauses.proofs.Layers as layers
-use Rattle.clauses.proofs.Roots as roots
-use Rattle.clauses.proofs.Roots.{K-high}
 
 -- the mean depth of layers whose depths and areas are at least 1 is at least 1
 mean-low : (h : ℕ) (ts : List Layer) → every (depthOk h) ts ≡ true → 1 ≤ areaOf ts → 1 ≤ meanDepth ts

@@ -8,12 +8,12 @@ use native.Mathlib.Omega.{arith}
 use lib.ListN.{length}
 use borrow.Author.Tests.{le-leb, lt-ltb}
 use Rattle.arith.proofs.Test.{both-true}
-use Rattle.equilibrium.specs.declared.Layer.{Layer}
-use Rattle.equilibrium.specs.declared.Design.{Design}
-use Rattle.equilibrium.specs.Section.{all, depthOk, areaOk}
-use Rattle.equilibrium.specs.Code.Usable.{Usable}
-use Rattle.equilibrium.specs.Code.Columns.{areaSum}
-use Rattle.equilibrium.proofs.OneLayer.{layer-low, layer-high, steel-low, steel-high}
+use Rattle.section.specs.declared.Layer.{Layer}
+use Rattle.section.specs.declared.Design.{Design}
+use Rattle.section.specs.Section.{all, depthOk, areaOk}
+use Rattle.section.specs.Code.Usable.{Usable}
+use Rattle.section.specs.Code.Columns.{areaSum}
+use Rattle.section.proofs.OneLayer.{layer-low, layer-high, steel-low, steel-high}
 use Rattle.clauses.specs.Tension.{inTension, tensionLayers, total, areaOf, firstMoment, meanDepth, As, dm}
 use Rattle.clauses.specs.Code.Ranges.{Counts}
 

@@ -1,12 +1,12 @@
 -- The accuracy statement, demand 3 of document 01, of Check. Assumes nothing.
 use mathlib.Core.List.{List}
-use Rattle.equilibrium.specs.declared.Layer.{Layer}
-use Rattle.equilibrium.specs.declared.Section.{Section}
-use Rattle.equilibrium.specs.declared.Load.{Load}
-use Rattle.equilibrium.specs.declared.Accepted.{Accepted}
-use Rattle.equilibrium.specs.declared.Accepted.the-variants as section
-use Rattle.equilibrium.specs.Section.{counted}
-use Rattle.equilibrium.specs.Refusals.{accepted}
+use Rattle.section.specs.declared.Layer.{Layer}
+use Rattle.section.specs.declared.Section.{Section}
+use Rattle.section.specs.declared.Load.{Load}
+use Rattle.section.specs.declared.Accepted.{Accepted}
+use Rattle.section.specs.declared.Accepted.the-variants as section
+use Rattle.section.specs.Section.{counted}
+use Rattle.section.specs.Refusals.{accepted}
 use Rattle.equilibrium.specs.Accuracy.{Accurate}
 use Rattle.clauses.specs.declared.Checked.{Checked}
 use Rattle.clauses.specs.declared.Checked.the-variants.{Done, Refused}

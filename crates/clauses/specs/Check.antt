@@ -4,21 +4,22 @@ use mathlib.Core.List.{List, [], _∷_}
 use lib.IntN.{ℤ, pos}
 use lib.ListN.{replicate}
 use Rattle.arith.specs.Chain.{firstFailing}
-use Rattle.equilibrium.specs.declared.Layer.{Layer}
-use Rattle.equilibrium.specs.declared.Section.{Section}
-use Rattle.equilibrium.specs.declared.Load.{Load}
-use Rattle.equilibrium.specs.declared.Design.{Design}
-use Rattle.equilibrium.specs.declared.Accepted.the-variants as section
-use Rattle.equilibrium.specs.Section.{Counted, counted}
-use Rattle.equilibrium.specs.Refusals.{accepted, faceTests, answer}
+use Rattle.section.specs.declared.Layer.{Layer}
+use Rattle.section.specs.declared.Section.{Section}
+use Rattle.section.specs.declared.Load.{Load}
+use Rattle.section.specs.declared.Design.{Design}
+use Rattle.section.specs.declared.Accepted.the-variants as section
+use Rattle.section.specs.Section.{Counted, counted}
+use Rattle.section.specs.Refusals.{accepted, answer}
+use Rattle.equilibrium.specs.Refusals.{faceTests}
 use Rattle.equilibrium.specs.Force.{momentResistance}
 use Rattle.equilibrium.specs.Depth.{depthUnder}
+use Rattle.shear.specs.Shear.{VRdc}
 use Rattle.clauses.specs.declared.Listed.{Listed}
 use Rattle.clauses.specs.declared.Report.{Report}
 use Rattle.clauses.specs.declared.Checked.{Checked}
 use Rattle.clauses.specs.declared.Checked.the-variants.{Done, Refused}
 use Rattle.clauses.specs.Tension.{areaOf, As, dm}
-use Rattle.clauses.specs.Shear.{VRdc}
 use Rattle.clauses.specs.Refusals.{facing, checkTests}
 use Rattle.clauses.specs.Verdicts.{numberOf, first, second, third, fourth, fifth}
 

@@ -1,7 +1,5 @@
 pub mod Tension
 pub mod Code
-pub mod SizeFactor
-pub mod Shear
 pub mod Verdicts
 pub mod Refusals
 pub mod Check

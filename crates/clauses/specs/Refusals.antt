@@ -5,13 +5,14 @@ use mathlib.Core.Bool.{cond}
 use mathlib.Core.List.{List, [], _++_}
 use lib.IntN.{ℤ, pos}
 use lib.Signed.{leZ}
-use Rattle.equilibrium.specs.declared.Layer.{Layer}
-use Rattle.equilibrium.specs.declared.Load.{Load}
-use Rattle.equilibrium.specs.declared.Accepted.{Accepted}
-use Rattle.equilibrium.specs.declared.Accepted.the-variants as section
-use Rattle.equilibrium.specs.Section.{Counted}
-use Rattle.equilibrium.specs.Refusals.{sectionTests, loadTests, faceTests, accepted}
-use Rattle.equilibrium.specs.Turned.{turned}
+use Rattle.section.specs.declared.Layer.{Layer}
+use Rattle.section.specs.declared.Load.{Load}
+use Rattle.section.specs.declared.Accepted.{Accepted}
+use Rattle.section.specs.declared.Accepted.the-variants as section
+use Rattle.section.specs.Section.{Counted}
+use Rattle.section.specs.Refusals.{sectionTests, loadTests, accepted}
+use Rattle.equilibrium.specs.Refusals.{faceTests}
+use Rattle.section.specs.Turned.{turned}
 
 -- the layers as the compressed face sees them: the top for M ≥ 0, and for M < 0 the section turned over
 abbrev pub facing : ℤ → ℕ → List Layer → List Layer

@@ -3,8 +3,7 @@ use Prim.Native.Nat.{ℕ, _+_, _*_, _/_}
 use mathlib.Core.Bool.{Bool, cond}
 use mathlib.Core.List.{List, [], _∷_}
 use lib.Dec.{ltb}
-use Rattle.equilibrium.specs.declared.Layer.{Layer}
-use Rattle.equilibrium.specs.Section.{all}
+use Rattle.section.specs.declared.Layer.{Layer}
 
 -- tension layers are those with 10·d > u
 abbrev pub inTension : ℕ → Layer → Bool

@@ -1,5 +1,5 @@
 -- The five verdicts, in document 01's sequence. As is the area of the tension layers and dm their mean depth. Assumes nothing.
-use Prim.Native.Nat.{ℕ, _*_, _≤_}
+use Prim.Native.Nat.{ℕ, _*_}
 use mathlib.Core.Bool.{Bool, cond, _&&_}
 use lib.Dec.{leb}
 use lib.IntN.{ℤ, pos, natAbs}

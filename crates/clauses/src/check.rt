@@ -2,23 +2,17 @@
 use super::Checked;
 use super::Report;
 use super::numbers::verdict_number;
-use super::shear::shear_resistance;
 use super::tension::tension_reinforcement;
 use super::verdicts;
 use equilibrium::Depth;
-use equilibrium::Design;
-use equilibrium::Load;
-use equilibrium::Section;
-use equilibrium::columns;
-ghost use Prim.Native.Nat.{_≤_};
-ghost use mathlib.Core.Bool.{cond};
+use section::Design;
+use section::Load;
+use section::columns;
+use shear::shear_resistance;
 ghost use mathlib.Core.Path.{_≡_};
-ghost use lib.IntN.{pos};
 ghost use lib.ListN.{length};
-ghost use lib.Signed.{leZ};
-ghost use Rattle.equilibrium.specs.Section.{layersOf};
-ghost use Rattle.equilibrium.specs.Code.Usable.{Usable, LoadOk};
-ghost use Rattle.equilibrium.specs.Code.Columns.{layersIn, turnedDepths, areaSum};
+ghost use Rattle.section.specs.Code.Usable.{Usable, LoadOk};
+ghost use Rattle.section.specs.Code.Columns.{layersIn, areaSum};
 ghost use Rattle.equilibrium.specs.Code.Whole.{DepthOk};
 ghost use Rattle.clauses.specs.Refusals.{facing};
 ghost use Rattle.clauses.specs.Check.{reportAt, checkFace};
@@ -73,28 +67,23 @@ fn check_face(
     }
 }
 
-// The depths as the compressed face sees them: turned over for M < 0.
-fn face(m: i64, h: u64, count: usize, depths: &mut [u32; 16])
-    requires { ⌜ (h ≤ 2000) × ((count ≤ 16) × (length (now depths) ≡ 16)) ⌝ }
-    ensures { λ _. ⌜ now (depths .exit) ≡ cond (leZ (pos 0) m) (now (depths .entry)) (turnedDepths h count (now (depths .entry))) ⌝ }
+// An accepted section in columns, under a load that passed its tests: for M < 0 turned over.
+pub fn check_accepted(
+    x: Design,
+    count: usize,
+    depths: &[u32; 16],
+    areas: &[u32; 16],
+    l: Load,
+) -> Checked
+    requires { ⌜ Usable x count (layersIn count (now depths) (now areas)) ⌝ }
+    requires { ⌜ LoadOk l × (length (now depths) ≡ 16) ⌝ }
+    ensures { λ r. ⌜ r ≡ checkFace x (facing (l .m) (x .h) (layersIn count (now (depths .entry)) (now (areas .entry)))) l ⌝ }
 {
-    if 0 <= m {
-        return;
+    let steel = columns::steel_area(count, areas);
+    if 0 <= l.m {
+        return check_face(x, count, depths, areas, steel, l);
     }
-    columns::turn_over(h, count, depths);
-}
-
-// An accepted section under a load that passed its tests: taken apart once, as the compressed face sees it.
-pub fn check_accepted(x: Design, s: Section, l: Load) -> Checked
-    requires { ⌜ Usable x (s .count) (layersOf s) × LoadOk l ⌝ }
-    ensures { λ r. ⌜ r ≡ checkFace x (facing (l .m) (x .h) (layersOf s)) l ⌝ }
-{
-    let layers = s.layers;
-    let count = s.count;
-    let mut depths = [0u32; 16];
-    let mut areas = [0u32; 16];
-    columns::take_apart(layers, &mut depths, &mut areas);
-    face(l.m, x.h, count, &mut depths);
-    let steel = columns::steel_area(count, &areas);
-    check_face(x, count, &depths, &areas, steel, l)
+    let mut turned = [0u32; 16];
+    columns::turn_over(x.h, depths, &mut turned);
+    check_face(x, count, &turned, areas, steel, l)
 }

@@ -1,20 +1,17 @@
 // What the clauses of EN 1992-1-1 say of a section and its load: document 01, "Verdicts".
 mod check;
-mod guess;
 pub mod numbers;
-mod power;
-mod shear;
-mod size;
 mod tension;
 mod verdicts;
 
-use equilibrium::Accepted;
-use equilibrium::Load;
-use equilibrium::Section;
-use equilibrium::refusals;
+use section::Accepted;
+use section::Load;
+use section::Section;
+use section::columns;
+use section::refusals;
 ghost use mathlib.Core.Path.{_≡_};
 ghost use Rattle.arith.specs.Chain.{firstFailing};
-ghost use Rattle.equilibrium.specs.Section.{counted};
+ghost use Rattle.section.specs.Section.{counted};
 ghost use Rattle.clauses.specs.Refusals.{checkTests};
 ghost use Rattle.clauses.specs.Check.{checkOf, refusalNumber};
 ghost use Rattle.clauses.specs.Accuracy.{AccurateCheck};
@@ -72,12 +69,18 @@ pub fn check_section(s: Section, l: Load) -> Checked
     ensures refusal { λ r. ⌜ refusalNumber r ≡ firstFailing (checkTests (counted s) l) ⌝ }
     ensures accurate { λ r. ⌜ AccurateCheck s l r ⌝ }
 {
-    match refusals::accept(s) {
+    let layers = s.layers;
+    let grade = s.grade;
+    let count = s.count;
+    let mut depths = [0u32; 16];
+    let mut areas = [0u32; 16];
+    columns::take_apart(layers, &mut depths, &mut areas);
+    match refusals::accept(s.width, s.height, grade, count, &depths, &areas) {
         Accepted::Refused(k) => Checked::Refused(k),
         Accepted::Ready(x) => {
             let k = refusals::load_refusal(l);
             if k == 0 {
-                check::check_accepted(x, s, l)
+                check::check_accepted(x, count, &depths, &areas, l)
             } else {
                 Checked::Refused(k)
             }

@@ -2,7 +2,7 @@
 ghost use mathlib.Core.Bool.{cond};
 ghost use mathlib.Core.Path.{_≡_};
 ghost use Prim.Native.Nat.{_*_, _≤_};
-ghost use Rattle.equilibrium.specs.Code.Columns.{layersIn};
+ghost use Rattle.section.specs.Code.Columns.{layersIn};
 ghost use Rattle.clauses.specs.Tension.{inTension, tensionLayers, firstMoment, As, dm};
 ghost use Rattle.clauses.specs.Code.Ranges.{Counts};
 

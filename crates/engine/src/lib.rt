@@ -1,16 +1,16 @@
 // The calls of document 01 for C: each answers document 01's numbers, a refusal with zeros. include/salwoerk.h describes them.
 use clauses::Listed;
 use equilibrium::Depth;
-use equilibrium::Load;
 use equilibrium::Moment;
-use equilibrium::Section;
 use record::Reading;
 use record::Written;
+use section::Load;
+use section::Section;
 ghost use mathlib.Core.Path.{_≡_};
 ghost use Rattle.equilibrium.specs.Depth.{findDepth};
 ghost use Rattle.equilibrium.specs.Moment.{momentAt};
 ghost use Rattle.clauses.specs.Check.{checkOf, listed};
-ghost use Rattle.equilibrium.specs.Section.{counted};
+ghost use Rattle.section.specs.Section.{counted};
 ghost use Rattle.arith.specs.Chain.{firstFailing};
 ghost use Rattle.record.specs.Refusals.{readTests, writeTests};
 ghost use Rattle.record.specs.Read.{readOf, RestIgnored};

@@ -10,13 +10,13 @@ use Rattle.arith.specs.Fraction.{Proper, Ratio, whole, integer, ratio, _≤ᶠ_
 use Rattle.arith.specs.Greatest.{greatest}
 use Rattle.arith.proofs.Fraction.{Positive, proper, integer-proper, Tested, Tested.below, Tested.above, tested, passes, holds-true, ≤ᶠ-trans, <ᶠ-≤ᶠ-trans}
 use Rattle.arith.proofs.Greatest.{NeverBack, greatest-le, le-greatest, greatest-passes}
-use Rattle.equilibrium.specs.declared.Layer.{Layer}
-use Rattle.equilibrium.specs.declared.Design.{Design}
-use Rattle.equilibrium.specs.Code.Usable.{Bounded}
+use Rattle.section.specs.declared.Layer.{Layer}
+use Rattle.section.specs.declared.Design.{Design}
+use Rattle.section.specs.Code.Usable.{Bounded}
 use Rattle.equilibrium.specs.Force.{at, internalForce, momentResistance}
 use Rattle.equilibrium.specs.Refusals.{carries}
 use Rattle.equilibrium.specs.Accuracy.{Range, growth, allowance, Accurate}
-use Rattle.equilibrium.proofs.Usable.{DepthsWithin}
+use Rattle.section.proofs.Usable.{DepthsWithin}
 use Rattle.equilibrium.proofs.Rising.{at-positive, at-whole, force-proper, force-mono, force-strict}
 use Rattle.equilibrium.proofs.Nearness.{moment-proper, moment-near}
 

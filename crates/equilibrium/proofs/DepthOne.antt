@@ -10,18 +10,18 @@ use lib.IntN.{ℤ, pos}
 use lib.Signed.{leZ, ltZ, _≤ℤ_, _<ℤ_}
 use Rattle.arith.proofs.Ring.{E, #, _⊕_, _⊝_, _⊗_, le!, le?, lt!, lt?}
 use Rattle.arith.proofs.Test.{both-true, lt-true, lt-false, true-le, false-le}
-use Rattle.equilibrium.specs.declared.Layer.{Layer}
-use Rattle.equilibrium.specs.declared.Design.{Design}
-use Rattle.equilibrium.specs.Section.{all, depthOk}
-use Rattle.equilibrium.specs.Code.Usable.{Bounded, Usable}
-use Rattle.equilibrium.specs.Turned.{turned}
+use Rattle.section.specs.declared.Layer.{Layer}
+use Rattle.section.specs.declared.Design.{Design}
+use Rattle.section.specs.Section.{all, depthOk}
+use Rattle.section.specs.Code.Usable.{Bounded, Usable}
+use Rattle.section.specs.Turned.{turned}
 use Rattle.equilibrium.specs.Refusals.{carries}
-use Rattle.equilibrium.specs.Code.Columns.{areaSum}
+use Rattle.section.specs.Code.Columns.{areaSum}
 use Rattle.equilibrium.specs.Code.Whole.{liftAt, liftSum, restAt, excessBy, excess}
 use Rattle.equilibrium.proofs.Whole.{lifted-low, carries-is}
-use Rattle.equilibrium.proofs.InColumns.{area-turned}
-use Rattle.equilibrium.proofs.OneLayer.{layer-low}
-use Rattle.equilibrium.proofs.Turned.{usable-turned}
+use Rattle.section.proofs.InColumns.{area-turned}
+use Rattle.section.proofs.OneLayer.{layer-low}
+use Rattle.section.proofs.Turned.{usable-turned}
 
 -- 520·9 is above 600
 lift-one : (x : Design) (d : ℕ) → Bounded x → 1 ≤ d → liftAt x 1 d ≡ 0

@@ -8,25 +8,26 @@ use lib.Dec.{leb}
 use lib.IntN.{ℤ, natAbs}
 use borrow.Author.Tests.{le-leb}
 use Rattle.arith.specs.Chain.{test, orElse, firstFailing}
-use Rattle.equilibrium.specs.declared.Layer.{Layer}
-use Rattle.equilibrium.specs.declared.Section.{Section}
-use Rattle.equilibrium.specs.declared.Design.{Design}
-use Rattle.equilibrium.specs.declared.Accepted.{Accepted}
-use Rattle.equilibrium.specs.declared.Accepted.the-variants as section
+use Rattle.section.specs.declared.Layer.{Layer}
+use Rattle.section.specs.declared.Section.{Section}
+use Rattle.section.specs.declared.Design.{Design}
+use Rattle.section.specs.declared.Accepted.{Accepted}
+use Rattle.section.specs.declared.Accepted.the-variants as section
 use Rattle.equilibrium.specs.declared.Depth.{Depth}
 use Rattle.equilibrium.specs.declared.Depth.the-variants.{At, Refused}
 use Rattle.equilibrium.specs.declared.Moment.{Moment}
 use Rattle.equilibrium.specs.declared.Moment.the-variants as moment
-use Rattle.equilibrium.specs.Section.{layersOf, counted}
-use Rattle.equilibrium.specs.Load.{forceOk}
-use Rattle.equilibrium.specs.Refusals.{accepted, carries, reaches, faceTests, faceTestsOf, answer, findDepthTests, momentTests}
-use Rattle.equilibrium.specs.Code.Usable.{Bounded, Usable}
+use Rattle.section.specs.Section.{layersOf, counted}
+use Rattle.section.specs.Load.{forceOk}
+use Rattle.section.specs.Refusals.{accepted, answer}
+use Rattle.equilibrium.specs.Refusals.{carries, reaches, faceTests, faceTestsOf, findDepthTests, momentTests}
+use Rattle.section.specs.Code.Usable.{Bounded, Usable}
 use Rattle.equilibrium.specs.Force.{momentResistance}
 use Rattle.equilibrium.specs.Depth as depth
 use Rattle.equilibrium.specs.Depth.{depthUnder, depthAnswer, depthFor, depthIn, findDepth}
 use Rattle.equilibrium.specs.Moment.{refusalNumber, momentIn, momentAt, momentFound}
 use Rattle.equilibrium.specs.Accuracy.{PromisedDepth, AccurateFound, AccurateDepth}
-use Rattle.equilibrium.proofs.Usable.{section-promise, call-refused, call-ready, call-numbered, DepthsWithin, depths-within}
+use Rattle.section.proofs.Usable.{section-promise, call-refused, call-ready, call-numbered, DepthsWithin, depths-within}
 use Rattle.equilibrium.proofs.Accuracy.{depth-low, depth-high, accuracy}
 
 -- ---- Moment at a depth

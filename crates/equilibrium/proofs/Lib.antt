@@ -1,13 +1,8 @@
-pub mod Walk
-pub mod OneLayer
-pub mod Usable
 pub mod Rising
 pub mod Nearness
 pub mod Accuracy
 pub mod Found
 pub mod Whole
 pub mod Sizes
-pub mod Turned
 pub mod DepthOne
-pub mod InColumns
 pub mod Trials

@@ -10,12 +10,12 @@ use lib.IntN.{ℤ, _+ℤ_}
 use Rattle.arith.specs.Fraction.{Fraction, Proper, Ratio, whole, integer, ratio, _+ᶠ_, _-ᶠ_, _*ᶠ_, _/ᶠ_, left, right, _≤ᶠ_, DifferAtMost, floor}
 use Rattle.arith.proofs.Fraction.{tidy, sides, exchange, Positive, proper, +ᶠ-proper, +ᶠ-mono, swap, differences, integer-add, floor-near}
 use Rattle.arith.proofs.Fraction.{differ-trans, differ-add, differ-same}
-use Rattle.equilibrium.specs.declared.Layer.{Layer}
-use Rattle.equilibrium.specs.declared.Design.{Design}
+use Rattle.section.specs.declared.Layer.{Layer}
+use Rattle.section.specs.declared.Design.{Design}
 use Rattle.equilibrium.specs.Force.{at, concreteForce, layerForce, steelForce, internalForce}
 use Rattle.equilibrium.specs.Force.{concreteMoment, layerMoment, steelMoment, unroundedMoment, steelResistance, momentResistance}
 use Rattle.equilibrium.proofs.Rising.{at-positive, at-whole, concrete-proper, layer-proper, steel-proper, layer-mono}
-use Rattle.equilibrium.proofs.Usable.{DepthsWithin}
+use Rattle.section.proofs.Usable.{DepthsWithin}
 
 abbrev half : ℕ → Fraction
 half h = whole h /ᶠ 2

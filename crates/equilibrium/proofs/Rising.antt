@@ -7,8 +7,8 @@ use native.Mathlib.Omega.{arith}
 use Rattle.arith.specs.Fraction.{Fraction, Proper, Ratio, whole, ratio, _-ᶠ_, _*ᶠ_, _/ᶠ_, _÷ᶠ_, _≤ᶠ_, _<ᶠ_}
 use Rattle.arith.proofs.Fraction.{tidy, Positive, proper, +ᶠ-proper, ≤ᶠ-refl, <ᶠ→≤ᶠ, +ᶠ-mono, +ᶠ-strict, whole-mono, whole-strict}
 use Rattle.arith.proofs.Fraction.{/ᶠ-mono, /ᶠ-strict, held-proper, held-mono}
-use Rattle.equilibrium.specs.declared.Layer.{Layer}
-use Rattle.equilibrium.specs.declared.Design.{Design}
+use Rattle.section.specs.declared.Layer.{Layer}
+use Rattle.section.specs.declared.Design.{Design}
 use Rattle.equilibrium.specs.Force.{at, concreteForce, stress, layerForce, steelForce, internalForce}
 
 -- a whole depth: above 0 from 1 on, and as a fraction the whole number

@@ -15,14 +15,14 @@ use Rattle.arith.proofs.Fraction.{exchange}
 use Rattle.arith.proofs.Bound.{lit, mul-in, sub-in, add-in, up-to}
 use Rattle.arith.proofs.Floor.{floor-in}
 use Rattle.arith.proofs.Test.{both-true}
-use Rattle.equilibrium.specs.declared.Layer.{Layer}
-use Rattle.equilibrium.specs.declared.Design.{Design}
-use Rattle.equilibrium.specs.Section.{all, depthOk, areaOk}
+use Rattle.section.specs.declared.Layer.{Layer}
+use Rattle.section.specs.declared.Design.{Design}
+use Rattle.section.specs.Section.{all, depthOk, areaOk}
 use Rattle.equilibrium.specs.Force.{at, concreteMoment, layerMoment, steelResistance, momentResistance}
-use Rattle.equilibrium.specs.Code.Usable.{Bounded, LayerOk, Usable}
-use Rattle.equilibrium.specs.Code.Columns.{areaSum}
+use Rattle.section.specs.Code.Usable.{Bounded, LayerOk, Usable}
+use Rattle.section.specs.Code.Columns.{areaSum}
 use Rattle.equilibrium.specs.Code.Whole.{DepthOk, liftAt, stressAt, liftSum, restAt, excess, blockMoment, BlockBounds, LiftBounds, Trial}
-use Rattle.equilibrium.proofs.OneLayer.{steel-high, layer-ok}
+use Rattle.section.proofs.OneLayer.{steel-high, layer-ok}
 use Rattle.equilibrium.proofs.Whole.{layer-floor, concrete-floor}
 
 -- a depth is at most 20,000 tenths

@@ -10,8 +10,8 @@ use Rattle.arith.specs.Greatest.{greatest}
 use Rattle.arith.proofs.Greatest.{le-greatest}
 use Rattle.arith.proofs.Ring.{#, le!, lt?}
 use Rattle.arith.proofs.Test.{lt-true, lt-false, le-false, true-le, false-le}
-use Rattle.equilibrium.specs.declared.Layer.{Layer}
-use Rattle.equilibrium.specs.declared.Design.{Design}
+use Rattle.section.specs.declared.Layer.{Layer}
+use Rattle.section.specs.declared.Design.{Design}
 use Rattle.equilibrium.specs.Refusals.{carries, reaches}
 use Rattle.equilibrium.specs.Code.Whole.{excess}
 use Rattle.equilibrium.proofs.Whole.{carries-is, reaches-is}

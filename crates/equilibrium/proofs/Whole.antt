@@ -14,11 +14,11 @@ use Rattle.arith.specs.Floor.{floorDiv}
 use Rattle.arith.proofs.Ring.{E, #, _⊕_, _⊝_, _⊗_, val}
 use Rattle.arith.proofs.Fraction.{tidy, proper, +ᶠ-proper, *ᶠ-comm}
 use Rattle.arith.proofs.Quotient.{integer-per, same-trans, same-add, same-mul, same-at-most, same-at-least, per, per-proper, by-value, floor-same, test-is}
-use Rattle.equilibrium.specs.declared.Layer.{Layer}
-use Rattle.equilibrium.specs.declared.Design.{Design}
+use Rattle.section.specs.declared.Layer.{Layer}
+use Rattle.section.specs.declared.Design.{Design}
 use Rattle.equilibrium.specs.Force.{at, concreteForce, stress, layerForce, steelForce, internalForce, concreteMoment, layerMoment}
 use Rattle.equilibrium.specs.Refusals.{carries, reaches}
-use Rattle.equilibrium.specs.Code.Columns.{areaSum}
+use Rattle.section.specs.Code.Columns.{areaSum}
 use Rattle.equilibrium.specs.Code.Whole.{lifted, liftAt, stressAt, liftSum, excess, blockMoment}
 use Rattle.equilibrium.proofs.Rising.{at-positive, force-proper}
 use Rattle.equilibrium.proofs.Nearness.{concrete-moment-proper, layer-moment-proper}

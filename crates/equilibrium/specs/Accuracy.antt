@@ -5,15 +5,16 @@ use lib.IntN.{ℤ}
 use lib.ListN.{length}
 use Rattle.arith.specs.Chain.{OneOf}
 use Rattle.arith.specs.Fraction.{Fraction, Proper, Ratio, whole, integer, ratio, _+ᶠ_, _-ᶠ_, _*ᶠ_, _/ᶠ_, _≤ᶠ_, _<ᶠ_, DifferAtMost}
-use Rattle.equilibrium.specs.declared.Layer.{Layer}
-use Rattle.equilibrium.specs.declared.Section.{Section}
-use Rattle.equilibrium.specs.declared.Design.{Design}
-use Rattle.equilibrium.specs.declared.Accepted.{Accepted}
-use Rattle.equilibrium.specs.declared.Accepted.the-variants as section
+use Rattle.section.specs.declared.Layer.{Layer}
+use Rattle.section.specs.declared.Section.{Section}
+use Rattle.section.specs.declared.Design.{Design}
+use Rattle.section.specs.declared.Accepted.{Accepted}
+use Rattle.section.specs.declared.Accepted.the-variants as section
 use Rattle.equilibrium.specs.declared.Depth.{Depth}
 use Rattle.equilibrium.specs.declared.Depth.the-variants.{At, Refused}
-use Rattle.equilibrium.specs.Section.{counted}
-use Rattle.equilibrium.specs.Refusals.{accepted, faceRefusals}
+use Rattle.section.specs.Section.{counted}
+use Rattle.section.specs.Refusals.{accepted}
+use Rattle.equilibrium.specs.Refusals.{faceRefusals}
 use Rattle.equilibrium.specs.Force.{at, internalForce, unroundedMoment, momentResistance}
 use Rattle.equilibrium.specs.Code.Whole.{DepthOk}
 use Rattle.equilibrium.specs.Moment.{momentAt, momentFound}

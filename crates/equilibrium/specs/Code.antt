@@ -1,4 +1,2 @@
--- Definitions that only the code needs: what it may assume, and what it computes. No sentence of document 01 stands below this page.
-pub mod Usable
-pub mod Columns
+-- Definitions that only the code needs: what it computes. No sentence of document 01 stands below this page.
 pub mod Whole

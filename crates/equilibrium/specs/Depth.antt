@@ -4,15 +4,16 @@ use mathlib.Core.List.{List}
 use lib.IntN.{ℤ}
 use Rattle.arith.specs.Chain.{firstFailing}
 use Rattle.arith.specs.Greatest.{greatest}
-use Rattle.equilibrium.specs.declared.Layer.{Layer}
-use Rattle.equilibrium.specs.declared.Section.{Section}
-use Rattle.equilibrium.specs.declared.Design.{Design}
-use Rattle.equilibrium.specs.declared.Accepted.{Accepted}
-use Rattle.equilibrium.specs.declared.Accepted.the-variants as section
+use Rattle.section.specs.declared.Layer.{Layer}
+use Rattle.section.specs.declared.Section.{Section}
+use Rattle.section.specs.declared.Design.{Design}
+use Rattle.section.specs.declared.Accepted.{Accepted}
+use Rattle.section.specs.declared.Accepted.the-variants as section
 use Rattle.equilibrium.specs.declared.Depth.{Depth}
 use Rattle.equilibrium.specs.declared.Depth.the-variants.{At, Refused}
-use Rattle.equilibrium.specs.Section.{Counted, counted}
-use Rattle.equilibrium.specs.Refusals.{accepted, carries, faceTests, answer, findDepthTests}
+use Rattle.section.specs.Section.{Counted, counted}
+use Rattle.section.specs.Refusals.{accepted, answer}
+use Rattle.equilibrium.specs.Refusals.{carries, faceTests, findDepthTests}
 
 -- the paper's numbers for each case of the answer: the refusal, 0 for none, and u, 0 where refused
 abbrev pub refusalNumber : Depth → ℕ

@@ -3,8 +3,8 @@ use Prim.Native.Nat.{ℕ, _*_}
 use mathlib.Core.List.{List, [], _∷_}
 use lib.IntN.{ℤ, pos, _+ℤ_}
 use Rattle.arith.specs.Fraction.{Fraction, Ratio, whole, ratio, _+ᶠ_, _-ᶠ_, _*ᶠ_, _/ᶠ_, _÷ᶠ_, held, floor}
-use Rattle.equilibrium.specs.declared.Layer.{Layer}
-use Rattle.equilibrium.specs.declared.Design.{Design}
+use Rattle.section.specs.declared.Layer.{Layer}
+use Rattle.section.specs.declared.Design.{Design}
 
 -- A whole depth, in tenths of a millimetre: at 1358 is 1358/1. The same formulas give force and moment at a depth that is a
 -- fraction p/q.

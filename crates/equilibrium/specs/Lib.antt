@@ -1,9 +1,6 @@
-pub mod Section
-pub mod Load
 pub mod Force
 pub mod Refusals
 pub mod Code
-pub mod Turned
 pub mod Depth
 pub mod Moment
 pub mod Accuracy

@@ -2,11 +2,12 @@
 use Prim.Native.Nat.{ℕ}
 use lib.IntN.{ℤ, pos}
 use Rattle.arith.specs.Chain.{firstFailing}
-use Rattle.equilibrium.specs.declared.Section.{Section}
+use Rattle.section.specs.declared.Section.{Section}
 use Rattle.equilibrium.specs.declared.Moment.{Moment}
 use Rattle.equilibrium.specs.declared.Moment.the-variants.{Of, Refused}
-use Rattle.equilibrium.specs.Section.{Counted, counted}
-use Rattle.equilibrium.specs.Refusals.{accepted, answer, momentTests}
+use Rattle.section.specs.Section.{Counted, counted}
+use Rattle.section.specs.Refusals.{accepted, answer}
+use Rattle.equilibrium.specs.Refusals.{momentTests}
 use Rattle.equilibrium.specs.Force.{momentResistance}
 
 -- the paper's numbers for each case of the answer: the refusal, 0 for none, and the moment, 0 where refused

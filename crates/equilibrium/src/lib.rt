@@ -1,60 +1,20 @@
-// A section of reinforced concrete in equilibrium: document 01, "What the engine covers" and "Equilibrium".
-pub mod columns;
-pub mod refusals;
+// A section of reinforced concrete in equilibrium: document 01, "Equilibrium".
 pub mod resistance;
 pub mod search;
 
-use materials::Grade;
-use materials::Materials;
+use section::Accepted;
+use section::Section;
+use section::columns;
+use section::refusals;
 ghost use mathlib.Core.Path.{_≡_};
 ghost use Rattle.arith.specs.Chain.{firstFailing};
-ghost use Rattle.equilibrium.specs.Section.{counted};
+ghost use Rattle.section.specs.Section.{counted};
 ghost use Rattle.equilibrium.specs.Refusals.{findDepthTests, momentTests};
 ghost use Rattle.equilibrium.specs.Depth as depth;
 ghost use Rattle.equilibrium.specs.Depth.{findDepth};
 ghost use Rattle.equilibrium.specs.Moment as moment;
 ghost use Rattle.equilibrium.specs.Moment.{momentAt};
 ghost use Rattle.equilibrium.specs.Accuracy.{AccurateDepth};
-
-// A layer of steel: its depth from the top face in mm, and its area in mm².
-#[repr(C)]
-pub struct Layer {
-    pub depth: u32,
-    pub area: u32,
-}
-
-// What a record can carry. Of `layers` only the first `count` places are read. They stand first in memory, where a copy of the
-// section by value is read back without a wait.
-#[repr(C)]
-pub struct Section {
-    pub layers: [Layer; 16],
-    pub width: i64,
-    pub height: i64,
-    pub grade: Grade,
-    pub count: usize,
-}
-
-// N and V in newtons, N positive in compression; M in N·mm about mid-height, positive where it compresses the top.
-#[repr(C)]
-pub struct Load {
-    pub n: i64,
-    pub m: i64,
-    pub v: i64,
-}
-
-// What the formulas use of an accepted section besides its layers: b, h and the materials.
-#[repr(C)]
-pub struct Design {
-    pub b: u64,
-    pub h: u64,
-    pub m: Materials,
-}
-
-// A section that passed its tests, or the number of the first that it failed.
-pub enum Accepted {
-    Ready(Design),
-    Refused(u8),
-}
 
 // The depth of the neutral axis, in tenths of a millimetre from the compressed face, or why there is none.
 pub enum Depth {
@@ -75,15 +35,16 @@ pub fn find_depth(s: Section, n: i64) -> Depth
     ensures refusal { λ r. ⌜ depth.refusalNumber r ≡ firstFailing (findDepthTests (counted s) n) ⌝ }
     ensures accurate { λ r. ⌜ AccurateDepth s n r ⌝ }
 {
-    match refusals::accept(s) {
+    let layers = s.layers;
+    let grade = s.grade;
+    let count = s.count;
+    let mut depths = [0u32; 16];
+    let mut areas = [0u32; 16];
+    columns::take_apart(layers, &mut depths, &mut areas);
+    match refusals::accept(s.width, s.height, grade, count, &depths, &areas) {
         Accepted::Refused(k) => Depth::Refused(k),
         Accepted::Ready(x) => {
             if refusals::force_ok(n) {
-                let layers = s.layers;
-                let count = s.count;
-                let mut depths = [0u32; 16];
-                let mut areas = [0u32; 16];
-                columns::take_apart(layers, &mut depths, &mut areas);
                 let steel = columns::steel_area(count, &areas);
                 search::depth_for(x, count, &depths, &areas, steel, n)
             } else {
@@ -99,15 +60,16 @@ pub fn moment_at(s: Section, u: u64) -> Moment
     ensures { λ r. ⌜ r ≡ momentAt s u ⌝ }
     ensures refusal { λ r. ⌜ moment.refusalNumber r ≡ firstFailing (momentTests (counted s) u) ⌝ }
 {
-    match refusals::accept(s) {
+    let layers = s.layers;
+    let grade = s.grade;
+    let count = s.count;
+    let mut depths = [0u32; 16];
+    let mut areas = [0u32; 16];
+    columns::take_apart(layers, &mut depths, &mut areas);
+    match refusals::accept(s.width, s.height, grade, count, &depths, &areas) {
         Accepted::Refused(k) => Moment::Refused(k),
         Accepted::Ready(x) => {
             if arith::both(1 <= u, u <= 10 * x.h) {
-                let layers = s.layers;
-                let count = s.count;
-                let mut depths = [0u32; 16];
-                let mut areas = [0u32; 16];
-                columns::take_apart(layers, &mut depths, &mut areas);
                 Moment::Of(resistance::moment_resistance(x, count, &depths, &areas, u))
             } else {
                 Moment::Refused(13)

@@ -1,12 +1,12 @@
 // The stress of the layers and the moment resistance MRd at a whole depth: document 01, "Equilibrium".
-use super::Design;
+use section::Design;
 ghost use Prim.Native.Nat.{_*_, _≤_};
 ghost use mathlib.Core.Path.{_≡_};
 ghost use lib.IntN.{pos};
 ghost use Rattle.arith.specs.Fraction.{floor};
-ghost use Rattle.equilibrium.specs.Code.Usable.{Bounded, LayerOk, Usable};
+ghost use Rattle.section.specs.Code.Usable.{Bounded, LayerOk, Usable};
 ghost use Rattle.equilibrium.specs.Force.{at, layerMoment, steelResistance, momentResistance};
-ghost use Rattle.equilibrium.specs.Code.Columns.{layersIn};
+ghost use Rattle.section.specs.Code.Columns.{layersIn};
 ghost use Rattle.equilibrium.specs.Code.Whole.{DepthOk, lifted, liftAt, blockMoment, BlockBounds, LiftBounds};
 
 // climb − start, held between 0 and most.

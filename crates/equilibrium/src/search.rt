@@ -1,18 +1,18 @@
 // The depth of the neutral axis, by pairs of trials: document 01, "Equilibrium". A trial compares the internal force with N exactly and
 // without a division.
 use super::Depth;
-use super::Design;
 use super::resistance::layer_lift;
+use section::Design;
 ghost use Prim.Native.Nat.{_+_, _*_, _≤_, _<_};
 ghost use mathlib.Core.Bool.{true};
 ghost use mathlib.Core.Path.{_≡_};
 ghost use Rattle.arith.specs.Greatest.{greatest};
 ghost use Rattle.arith.specs.Integer.{Within};
-ghost use Rattle.equilibrium.specs.Code.Usable.{Bounded, Usable};
+ghost use Rattle.section.specs.Code.Usable.{Bounded, Usable};
 ghost use Rattle.equilibrium.specs.Refusals.{carries};
 ghost use Rattle.equilibrium.specs.Depth.{depthFor};
 ghost use Rattle.equilibrium.specs.Accuracy.{PromisedDepth};
-ghost use Rattle.equilibrium.specs.Code.Columns.{layersIn};
+ghost use Rattle.section.specs.Code.Columns.{layersIn};
 ghost use Rattle.equilibrium.specs.Code.Whole.{liftSum, restAt, excessBy, excess, ExcessBounds, Trial};
 
 // The lift of all layers at a depth and at the next tenth.

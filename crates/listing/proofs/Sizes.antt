@@ -11,35 +11,36 @@ use Rattle.arith.specs.Chain.{firstFailing, OneOf}
 use Rattle.arith.proofs.Bound.{abs-add}
 use Rattle.arith.proofs.Chain.{passes}
 use Rattle.arith.specs.Every.{every}
-use Rattle.equilibrium.specs.declared.Layer.{Layer}
-use Rattle.equilibrium.specs.declared.Section.{Section}
-use Rattle.equilibrium.specs.declared.Load.{Load}
-use Rattle.equilibrium.specs.declared.Design.{Design}
-use Rattle.equilibrium.specs.declared.Accepted.{Accepted}
-use Rattle.equilibrium.specs.declared.Accepted.the-variants as section
+use Rattle.section.specs.declared.Layer.{Layer}
+use Rattle.section.specs.declared.Section.{Section}
+use Rattle.section.specs.declared.Load.{Load}
+use Rattle.section.specs.declared.Design.{Design}
+use Rattle.section.specs.declared.Accepted.{Accepted}
+use Rattle.section.specs.declared.Accepted.the-variants as section
 use Rattle.equilibrium.specs.declared.Depth.{Depth}
 use Rattle.equilibrium.specs.declared.Depth.the-variants as depth
-use Rattle.equilibrium.specs.Section.{layersOf, counted}
-use Rattle.equilibrium.specs.Refusals.{accepted, loadTests, sectionRefusals, loadRefusals, faceRefusals}
-use Rattle.equilibrium.specs.Code.Usable.{Usable, LoadOk}
+use Rattle.section.specs.Section.{layersOf, counted}
+use Rattle.section.specs.Refusals.{accepted, loadTests, sectionRefusals, loadRefusals}
+use Rattle.equilibrium.specs.Refusals.{faceRefusals}
+use Rattle.section.specs.Code.Usable.{Usable, LoadOk}
 use Rattle.equilibrium.specs.Force.{momentResistance}
 use Rattle.equilibrium.specs.Code.Whole.{DepthOk}
 use Rattle.equilibrium.specs.Depth.{depthFor}
 use Rattle.equilibrium.specs.Accuracy.{PromisedDepth}
-use Rattle.equilibrium.proofs.Usable.{section-promise, usable-by, load-one-of, load-ok}
+use Rattle.section.proofs.Usable.{section-promise, usable-by, load-one-of, load-ok}
 use Rattle.equilibrium.proofs.Sizes.{depth-most, resistance-in}
 use Rattle.equilibrium.proofs.Found.{depth-promise}
+use Rattle.shear.specs.Shear.{Sheared, concreteShare, axialShare, orZero, VRdc}
+use Rattle.shear.specs.Code.Ranges.{StressBounds, ShearBounds}
+use Rattle.shear.specs.Shear as shear
+use Rattle.shear.proofs.Roots.{concrete-high, c-in, axial-in}
 use Rattle.clauses.specs.declared.Verdict.{Verdict}
 use Rattle.clauses.specs.declared.Verdict.the-variants.{Pass, Fail, NotReached}
 use Rattle.clauses.specs.declared.Checked.the-variants.{Done}
 use Rattle.clauses.specs.Verdicts.{numberOf, first, second, third, fourth, fifth}
 use Rattle.clauses.specs.Tension.{areaOf, As, dm}
-use Rattle.clauses.specs.Shear.{Sheared, concreteShare, axialShare, orZero, VRdc}
-use Rattle.clauses.specs.Code.Ranges.{StressBounds, ShearBounds}
-use Rattle.clauses.specs.Shear as shear
 use Rattle.clauses.specs.Check.{refusedListed, listed, reportAt, checkFace, checkOf}
 use Rattle.clauses.proofs.Layers.{counts, As-high, dm-high}
-use Rattle.clauses.proofs.Roots.{concrete-high, c-in, axial-in}
 use Rattle.clauses.proofs.Checking.{usable-facing, check-refused, load-refused, load-passed, face-refused, face-at}
 use Rattle.listing.proofs.Longest.{Fitting}
 

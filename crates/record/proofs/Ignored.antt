@@ -10,7 +10,7 @@ use lib.IntN.{pos}
 use lib.ListN.{length, take, length-append, List·getD-append}
 use lib.Seq.{length-take-le, getD-take}
 use Rattle.arith.specs.Chain.{firstFailing}
-use Rattle.equilibrium.specs.declared.Layer.{Layer}
+use Rattle.section.specs.declared.Layer.{Layer}
 use Rattle.record.specs.declared.Reading.{Reading}
 use Rattle.record.specs.Bytes.{numberAt, signed}
 use Rattle.record.specs.Map.{stands, offset, recordLength, onlyFields, complete}

@@ -3,9 +3,9 @@ use mathlib.Core.Path.{_≡_, ap}
 use mathlib.Core.List.{List, _++_}
 use Prim.Native.Nat.{ℕ}
 use lib.ListN.{length}
-use Rattle.equilibrium.specs.Section.{Counted, counted}
-use Rattle.equilibrium.specs.declared.Section.{Section}
-use Rattle.equilibrium.specs.declared.Load.{Load}
+use Rattle.section.specs.Section.{Counted, counted}
+use Rattle.section.specs.declared.Section.{Section}
+use Rattle.section.specs.declared.Load.{Load}
 use Rattle.record.specs.Map.{recordLength}
 use Rattle.record.specs.Layout.{mapOf, recordOf}
 use Rattle.record.specs.Read.{readOf}

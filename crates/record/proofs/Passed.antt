@@ -8,12 +8,12 @@ use lib.Dec.{lit<}
 use lib.ListN.{length, getD}
 use lib.Signed.{mag}
 use Rattle.arith.proofs.Test.{both-true}
-use Rattle.equilibrium.specs.Section.{counted, layersOf, all, depthOk, areaOk, noLayer}
-use Rattle.equilibrium.specs.declared.Layer.{Layer}
-use Rattle.equilibrium.specs.declared.Section.{Section}
-use Rattle.equilibrium.specs.declared.Load.{Load}
-use Rattle.equilibrium.proofs.OneLayer.{layer-ok}
-use Rattle.equilibrium.proofs.Usable.{all-passed}
+use Rattle.section.specs.Section.{counted, layersOf, all, depthOk, areaOk, noLayer}
+use Rattle.section.specs.declared.Layer.{Layer}
+use Rattle.section.specs.declared.Section.{Section}
+use Rattle.section.specs.declared.Load.{Load}
+use Rattle.section.proofs.OneLayer.{layer-ok}
+use Rattle.section.proofs.Usable.{all-passed}
 use Rattle.record.specs.declared.fields.Number.{Number}
 use Rattle.record.specs.Layout.{valueOf}
 use Rattle.record.proofs.Readings.{testsOf}

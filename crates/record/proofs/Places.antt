@@ -7,8 +7,8 @@ use native.Mathlib.Numerals.{add-one}
 use native.Mathlib.Omega.{arith}
 use lib.ListN.{length, set, replicate, length-append}
 use lib.Seq.{set-append-seam}
-use Rattle.equilibrium.specs.declared.Layer.{Layer}
-use Rattle.equilibrium.specs.Section.{noLayer}
+use Rattle.section.specs.declared.Layer.{Layer}
+use Rattle.section.specs.Section.{noLayer}
 use Rattle.record.specs.Map.{stands, offset}
 use Rattle.record.specs.Fields.{layerBit}
 use Rattle.record.specs.Contents.{layerAt, layersTo, filled}

@@ -10,11 +10,11 @@ use lib.ListN.{length}
 use Rattle.arith.specs.Chain.{test, orElse, firstFailing, OneOf}
 use Rattle.arith.proofs.Chain.{first-of, passes, among, first-one-of, test-one-of}
 use Rattle.arith.proofs.Test.{is-true, both-true, clash}
-use Rattle.equilibrium.specs.Section.{Counted, counted}
-use Rattle.equilibrium.specs.Refusals.{sectionTests, sectionRefusals, loadTests, loadRefusals}
-use Rattle.equilibrium.specs.declared.Section.{Section}
-use Rattle.equilibrium.specs.declared.Load.{Load}
-use Rattle.equilibrium.proofs.Usable.{section-one-of, load-one-of}
+use Rattle.section.specs.Section.{Counted, counted}
+use Rattle.section.specs.Refusals.{sectionTests, sectionRefusals, loadTests, loadRefusals}
+use Rattle.section.specs.declared.Section.{Section}
+use Rattle.section.specs.declared.Load.{Load}
+use Rattle.section.proofs.Usable.{section-one-of, load-one-of}
 use Rattle.record.specs.declared.Reading.{Reading}
 use Rattle.record.specs.Map.{stands, recordLength, onlyFields, completeTo, complete}
 use Rattle.record.specs.Contents.{sectionOf, loadOf}

@@ -15,11 +15,11 @@ use Rattle.arith.specs.Chain.{firstFailing}
 use Rattle.arith.specs.Integer.{inRange}
 use Rattle.arith.proofs.Chain.{both-zero}
 use Rattle.arith.proofs.Test.{clash, both-true, and-true}
-use Rattle.equilibrium.specs.Section.{Counted, counted, layersOf, noLayer}
-use Rattle.equilibrium.specs.Refusals.{sectionTests, loadTests}
-use Rattle.equilibrium.specs.declared.Layer.{Layer}
-use Rattle.equilibrium.specs.declared.Section.{Section}
-use Rattle.equilibrium.specs.declared.Load.{Load}
+use Rattle.section.specs.Section.{Counted, counted, layersOf, noLayer}
+use Rattle.section.specs.Refusals.{sectionTests, loadTests}
+use Rattle.section.specs.declared.Layer.{Layer}
+use Rattle.section.specs.declared.Section.{Section}
+use Rattle.section.specs.declared.Load.{Load}
 use Rattle.record.specs.declared.Written.{Written}
 use Rattle.record.specs.declared.fields.Number.{Number}
 use Rattle.record.specs.declared.fields.Field.{Field}

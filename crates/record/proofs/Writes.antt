@@ -10,9 +10,9 @@ use lib.Dec.{leb}
 use lib.ListN.{length, drop}
 use Rattle.arith.specs.Chain.{test, orElse, firstFailing}
 use Rattle.arith.proofs.Chain.{first-of, or-first}
-use Rattle.equilibrium.specs.Section.{Counted}
-use Rattle.equilibrium.specs.Refusals.{sectionTests, loadTests}
-use Rattle.equilibrium.specs.declared.Load.{Load}
+use Rattle.section.specs.Section.{Counted}
+use Rattle.section.specs.Refusals.{sectionTests, loadTests}
+use Rattle.section.specs.declared.Load.{Load}
 use Rattle.record.specs.declared.Written.{Written}
 use Rattle.record.specs.Bytes.{bytesOf, placed}
 use Rattle.record.specs.Map.{recordLength}

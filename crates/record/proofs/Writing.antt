@@ -8,9 +8,9 @@ use native.Mathlib.Numerals.{add-one}
 use native.Mathlib.Omega.{arith}
 use lib.Dec.{eqb, lit<, lit≤}
 use lib.ListN.{length, getD, length-append}
-use Rattle.equilibrium.specs.Section.{Counted, noLayer}
-use Rattle.equilibrium.specs.declared.Layer.{Layer}
-use Rattle.equilibrium.specs.declared.Load.{Load}
+use Rattle.section.specs.Section.{Counted, noLayer}
+use Rattle.section.specs.declared.Layer.{Layer}
+use Rattle.section.specs.declared.Load.{Load}
 use Rattle.record.specs.declared.fields.Field.{Field}
 use Rattle.record.specs.declared.fields.Field.the-variants.{Must, May, LayerAt, Unused}
 use Rattle.record.specs.Bytes.{bytesOf}

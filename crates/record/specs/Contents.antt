@@ -4,10 +4,10 @@ use mathlib.Core.Bool.{cond}
 use mathlib.Core.List.{List, [], _∷_, _++_}
 use lib.IntN.{ℤ, pos}
 use lib.ListN.{length, replicate}
-use Rattle.equilibrium.specs.Section.{noLayer}
-use Rattle.equilibrium.specs.declared.Layer.{Layer}
-use Rattle.equilibrium.specs.declared.Section.{Section}
-use Rattle.equilibrium.specs.declared.Load.{Load}
+use Rattle.section.specs.Section.{noLayer}
+use Rattle.section.specs.declared.Layer.{Layer}
+use Rattle.section.specs.declared.Section.{Section}
+use Rattle.section.specs.declared.Load.{Load}
 use Rattle.record.specs.Bytes.{numberAt, signed}
 use Rattle.record.specs.Map.{stands, offset}
 use Rattle.record.specs.Fields.{fieldOf, layerBit, isNumber, missing}

@@ -6,9 +6,9 @@ use lib.Dec.{ltb}
 use lib.IntN.{ℤ}
 use lib.ListN.{getD}
 use Rattle.arith.specs.Integer.{inRange}
-use Rattle.equilibrium.specs.Section.{Counted, noLayer}
-use Rattle.equilibrium.specs.declared.Layer.{Layer}
-use Rattle.equilibrium.specs.declared.Load.{Load}
+use Rattle.section.specs.Section.{Counted, noLayer}
+use Rattle.section.specs.declared.Layer.{Layer}
+use Rattle.section.specs.declared.Load.{Load}
 use Rattle.record.specs.declared.fields.Number.{Number}
 use Rattle.record.specs.declared.fields.Number.the-variants.{Width, Height, Fck, Fyk, Axial, Moment, Shear}
 use Rattle.record.specs.declared.fields.Field.{Field}

@@ -6,8 +6,8 @@ use mathlib.Core.Path.{_≡_}
 use lib.IntN.{pos}
 use lib.ListN.{take}
 use Rattle.arith.specs.Chain.{firstFailing}
-use Rattle.equilibrium.specs.declared.Section.{Section}
-use Rattle.equilibrium.specs.declared.Load.{Load}
+use Rattle.section.specs.declared.Section.{Section}
+use Rattle.section.specs.declared.Load.{Load}
 use Rattle.record.specs.declared.Reading.{Reading}
 use Rattle.record.specs.Map.{recordLength}
 use Rattle.record.specs.Contents.{sectionWith, loadWith, sectionOf, loadOf}

@@ -6,9 +6,9 @@ use mathlib.Core.List.{List, [], _∷_, _++_}
 use lib.Dec.{leb}
 use lib.ListN.{length}
 use Rattle.arith.specs.Chain.{test, isOneOf}
-use Rattle.equilibrium.specs.Section.{Counted, counted}
-use Rattle.equilibrium.specs.Refusals.{sectionTests, sectionRefusals, loadTests, loadRefusals}
-use Rattle.equilibrium.specs.declared.Load.{Load}
+use Rattle.section.specs.Section.{Counted, counted}
+use Rattle.section.specs.Refusals.{sectionTests, sectionRefusals, loadTests, loadRefusals}
+use Rattle.section.specs.declared.Load.{Load}
 use Rattle.record.specs.Bytes.{numberAt}
 use Rattle.record.specs.Map.{recordLength, onlyFields, complete}
 use Rattle.record.specs.Contents.{sectionOf, loadOf}

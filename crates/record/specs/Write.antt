@@ -3,8 +3,8 @@ use Prim.Native.Nat.{ℕ, zero, suc}
 use mathlib.Core.List.{List, _++_}
 use lib.ListN.{length, drop}
 use Rattle.arith.specs.Chain.{firstFailing}
-use Rattle.equilibrium.specs.Section.{Counted}
-use Rattle.equilibrium.specs.declared.Load.{Load}
+use Rattle.section.specs.Section.{Counted}
+use Rattle.section.specs.declared.Load.{Load}
 use Rattle.record.specs.declared.Written.{Written}
 use Rattle.record.specs.Map.{recordLength}
 use Rattle.record.specs.Layout.{mapOf, recordOf}

@@ -6,8 +6,8 @@ pub mod reader;
 mod refusals;
 pub mod writer;
 
-use equilibrium::Load;
-use equilibrium::Section;
+use section::Load;
+use section::Section;
 
 // What is read: refusal 0 with the record's length, section and load; or the refusal with zeros, and the length where one is named.
 #[repr(C)]

@@ -6,49 +6,56 @@ use lib.Dec.{leb}
 use lib.ListN.{length-map}
 use borrow.Author.Needs.{needs}
 use borrow.Author.Tests.{leb-true}
-use Rattle.arith.proofs.Machine.{result}
+use Rattle.arith.proofs.Machine.{field, result}
 use Rattle.arith.proofs.Test.{both-true}
-use Rattle.equilibrium.specs.declared.Accepted.the-variants.{Ready}
-use Rattle.equilibrium.specs.declared.Design.{Design}
-use Rattle.equilibrium.specs.declared.Section.{Section}
-use Rattle.equilibrium.specs.Section.{layersOf, counted}
-use Rattle.equilibrium.specs.Refusals.{accepted}
-use Rattle.equilibrium.specs.Code.Usable.{Usable}
+use Rattle.section.specs.declared.Accepted.the-variants.{Ready}
+use Rattle.section.specs.declared.Design.{Design}
+use Rattle.section.specs.declared.Section.{Section}
+use Rattle.section.specs.Section.{layersOf, counted}
+use Rattle.section.specs.Refusals.{accepted}
+use Rattle.section.specs.Code.Usable.{Usable}
 use Rattle.equilibrium.specs.Force.{momentResistance}
-use Rattle.equilibrium.specs.Code.Columns.{layersIn}
-use Rattle.equilibrium.proofs.Usable.{usable-by}
+use Rattle.section.specs.Code.Columns.{layersIn}
+use Rattle.section.proofs.Usable.{usable-by}
 use Rattle.equilibrium.proofs.Found.{moment-refused, moment-ready, moment-clauses}
-use Rattle.equilibrium.proofs.InColumns.{counted-in}
+use Rattle.section.proofs.InColumns.{in-columns, counted-in}
 use Rattle.equilibrium.proofs.moment_at.Statement.{statement}
 use Rattle.equilibrium.proofs.moment_at.Tie as tie
 
--- an accepted section
-module _ (c : tie.After-x) where
+-- the section taken apart is asked as it is
+module _ (c : tie.After-accept) where
+  abbrev apart : tie.After-take-apart
+  apart = c .before .before .before .before .before
+
+  abbrev start : tie.Start
+  start = apart .before .before .before .before .before
+
   abbrev s : Section
-  s = c .before .before .before .args .s
+  s = start .args .s
+
+  answer-is : c .accept .result ≡ accepted (counted s)
+  answer-is = c .accept .ensures .0 ∙ ap accepted (in-columns s (simp length-map at (start .good .0 .1 .1 .0 .1 .0 .1))
+      (field (s .width) (c .before .before .struct-told .given .1 .0 .1)) (field (s .height) (c .before .struct-told2 .given .1 .1 .0 .1)) (apart .take-apart .ensures))
+
+-- an accepted section, in columns
+module _ (c : tie.After-x) where
+  abbrev asked : tie.After-accept
+  asked = c .before .before
 
   abbrev x : Design
   x = c .x .given .0 .0
 
-  ready : accepted (counted s) ≡ Ready x
-  ready = sym (c .before .before .accept .ensures .0) ∙ c .x .given .1
+  ready : accepted (counted (s asked)) ≡ Ready x
+  ready = sym (answer-is asked) ∙ c .x .given .1
 
-  usable : Usable x (s .count) (layersOf s)
-  usable = usable-by s ready
+  usable : Usable x (s asked .count) (layersOf (s asked))
+  usable = usable-by (s asked) ready
 
--- it is taken apart
-module _ (c : tie.After-take-apart) where
-  abbrev tested : tie.Then1
-  tested = c .before .before .before .before
+  layers-are : layersIn (s asked .count) (apart asked .take-apart .last .1 .0) (apart asked .take-apart .last .1 .1 .0) ≡ layersOf (s asked)
+  layers-are = counted-in (s asked) (simp length-map at (start asked .good .0 .1 .1 .0 .1 .0 .1)) (usable .count-high) (apart asked .take-apart .ensures)
 
-  abbrev part : tie.After-x
-  part = tested .before .before .before .before
-
-  abbrev begin : tie.Start
-  begin = part .before .before .before
-
-  layers-are : layersIn (begin .args .s .count) (c .take-apart .last .1 .0) (c .take-apart .last .1 .1 .0) ≡ layersOf (begin .args .s)
-  layers-are = counted-in (begin .args .s) (simp length-map at (begin .good .0 .1 .1 .0 .1 .0 .1)) (usable part .count-high) (c .take-apart .ensures)
+take-apart-requires : tie.Need-take-apart-requires
+take-apart-requires c κs = search needs
 
 accept-requires : tie.Need-accept-requires
 accept-requires c κs = search needs
@@ -65,47 +72,45 @@ mul-both c = omega (arith, usable (c .before .before) .bounded .h-high)
 both-requires : tie.Need-both-requires
 both-requires c κs = search needs
 
-take-apart-requires : tie.Need-take-apart-requires
-take-apart-requires c κs = search needs
-
 moment-resistance-requires : tie.Need-moment-resistance-requires
 moment-resistance-requires c κs =
-    let p = c .before .before in
-    let a = part p in
-    let u = begin p .args .u in
-    let t = both-true (leb 1 u) (leb u (10 * x a .h)) (sym (tested p .before .both .ensures) ∙ tested p .if1 .taken) in
-    (rw (layers-are p) (usable a), record { low = leb-true 1 u (t .0); high = leb-true u (10 * x a .h) (t .1) })
+    let tested = c .before .before in
+    let a = tested .before .before .before .before in
+    let u = start (asked a) .args .u in
+    let t = both-true (leb 1 u) (leb u (10 * x a .h)) (sym (tested .before .both .ensures) ∙ tested .if1 .taken) in
+    (rw (layers-are a) (usable a), record { low = leb-true 1 u (t .0); high = leb-true u (10 * x a .h) (t .1) })
 
 returns : tie.Need-returns
 returns c =
-    let s = c .before .before .before .before .args in
-    moment-clauses (s .s) (s .u) (sym (moment-refused (s .s) (s .u) (sym (c .before .before .before .accept .ensures .0) ∙ c .before .k .given .1)))
+    let a = c .before .before .before in
+    let u = start a .args .u in
+    moment-clauses (s a) u (sym (moment-refused (s a) u (sym (answer-is a) ∙ c .before .k .given .1)))
 
 returns-2 : tie.Need-returns-2
 returns-2 c =
-    let p = c .before .before .before in
-    let a = part p in
-    let u = begin p .args .u in
-    let found = c .moment-resistance .ensures ∙ ap (λ ls. momentResistance (x a) ls u) (layers-are p) in
-    moment-clauses (s a) u
-    (sym (moment-ready (s a) u (ready a) ∙ simp (sym (tested p .before .both .ensures) ∙ tested p .if1 .taken, result (c .moment-resistance .ok) found)))
+    let tested = c .before .before .before in
+    let a = tested .before .before .before .before in
+    let u = start (asked a) .args .u in
+    let found = c .moment-resistance .ensures ∙ ap (λ ls. momentResistance (x a) ls u) (layers-are a) in
+    moment-clauses (s (asked a)) u
+    (sym (moment-ready (s (asked a)) u (ready a) ∙ simp (sym (tested .before .both .ensures) ∙ tested .if1 .taken, result (c .moment-resistance .ok) found)))
 
 returns-3 : tie.Need-returns-3
 returns-3 c =
     let a = c .before .before .before .before in
-    let u = a .before .before .before .args .u in
-    moment-clauses (s a) u (sym (moment-ready (s a) u (ready a) ∙ simp (sym (c .before .both .ensures) ∙ c .if1 .left)))
+    let u = start (asked a) .args .u in
+    moment-clauses (s (asked a)) u (sym (moment-ready (s (asked a)) u (ready a) ∙ simp (sym (c .before .both .ensures) ∙ c .if1 .left)))
 
 pub moment-at-spec : {M : Type 1} → statement M
 moment-at-spec =
     tie.close
     (tie.spec
+    take-apart-requires
     accept-requires
     enum-known-k
     enum-known-x
     mul-both
     both-requires
-    take-apart-requires
     moment-resistance-requires
     returns
     returns-2

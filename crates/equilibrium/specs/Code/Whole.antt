@@ -5,10 +5,10 @@ use mathlib.Core.List.{List, [], _∷_}
 use mathlib.Core.Path.{_≡_}
 use lib.IntN.{ℤ, pos, _+ℤ_, _-ℤ_, _*ℤ_}
 use Rattle.arith.specs.Integer.{Within}
-use Rattle.equilibrium.specs.declared.Layer.{Layer}
-use Rattle.equilibrium.specs.declared.Design.{Design}
-use Rattle.equilibrium.specs.Code.Usable.{Bounded, Usable}
-use Rattle.equilibrium.specs.Code.Columns.{areaSum}
+use Rattle.section.specs.declared.Layer.{Layer}
+use Rattle.section.specs.declared.Design.{Design}
+use Rattle.section.specs.Code.Usable.{Bounded, Usable}
+use Rattle.section.specs.Code.Columns.{areaSum}
 
 -- a depth of the range
 pub record DepthOk (x : Design) (u : ℕ) : Type 0 where

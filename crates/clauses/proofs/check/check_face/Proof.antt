@@ -4,7 +4,7 @@ use lib.IntN.{ℤ}
 use borrow.Author.Needs.{needs}
 use Rattle.arith.proofs.Machine.{field}
 use Rattle.equilibrium.specs.Depth.{depthFor}
-use Rattle.equilibrium.specs.Code.Columns.{layersIn}
+use Rattle.section.specs.Code.Columns.{layersIn}
 use Rattle.clauses.specs.declared.Checked.the-variants.{Done}
 use Rattle.clauses.proofs.Checking.{face-refused, face-at}
 use Rattle.clauses.proofs.check.check_face.Statement.{statement}

@@ -5,8 +5,8 @@ use mathlib.Core.Path.{_∙_}
 use native.Mathlib.Omega.{arith}
 use borrow.Author.Needs.{needs}
 use Rattle.arith.proofs.Machine.{field, result}
-use Rattle.equilibrium.specs.declared.Layer.{Layer}
-use Rattle.equilibrium.specs.Code.Columns.{layersIn}
+use Rattle.section.specs.declared.Layer.{Layer}
+use Rattle.section.specs.Code.Columns.{layersIn}
 use Rattle.equilibrium.proofs.Sizes.{depth-most, area-high}
 use Rattle.clauses.specs.Check.{reportAt}
 use Rattle.clauses.proofs.Layers.{counts, area-is, As-high, dm-high}

@@ -6,12 +6,12 @@ use mathlib.Core.Path.{_≡_}
 use native.Mathlib.Omega.{arith}
 use lib.ListN.{drop}
 use borrow.Author.Needs.{needs}
-use Rattle.equilibrium.specs.declared.Layer.{Layer}
-use Rattle.equilibrium.specs.Section.{depthOk, areaOk}
-use Rattle.equilibrium.specs.Code.Columns.{layerIn, layersIn}
-use Rattle.equilibrium.proofs.OneLayer.{layer-high, steel-high}
-use Rattle.equilibrium.proofs.Walk.{all-at}
-use Rattle.equilibrium.proofs.InColumns.{next-in, over-in}
+use Rattle.section.specs.declared.Layer.{Layer}
+use Rattle.section.specs.Section.{depthOk, areaOk}
+use Rattle.section.specs.Code.Columns.{layerIn, layersIn}
+use Rattle.section.proofs.OneLayer.{layer-high, steel-high}
+use Rattle.section.proofs.Walk.{all-at}
+use Rattle.section.proofs.InColumns.{next-in, over-in}
 use Rattle.clauses.specs.Tension.{inTension, tensionLayers, total, As}
 use Rattle.clauses.proofs.Layers.{Summed, sum-step, sum-done, share, tension-step, As-high, moment-most}
 use Rattle.clauses.proofs.tension.layer_sums.Statement.{statement}

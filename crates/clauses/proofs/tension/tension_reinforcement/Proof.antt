@@ -3,7 +3,7 @@ use Prim.Native.Nat.{_/_}
 use mathlib.Core.Path.{_≡_, sym, ap₂, _∙_}
 use native.Mathlib.Nat.{div-zero}
 use borrow.Author.Needs.{needs}
-use Rattle.equilibrium.specs.Code.Columns.{layersIn}
+use Rattle.section.specs.Code.Columns.{layersIn}
 use Rattle.clauses.specs.Tension.{tensionLayers, dm}
 use Rattle.clauses.proofs.Layers.{mean-is}
 use Rattle.clauses.proofs.tension.tension_reinforcement.Statement.{statement}

@@ -9,7 +9,7 @@ use borrow.Author.Needs.{needs}
 use Rattle.arith.specs.Floor.{floorDiv}
 use Rattle.arith.proofs.Machine.{M, nat, num, _⊟_, _⊠_, fits, value, for, result}
 use Rattle.arith.proofs.Ring.{#, _⊗_, lt! }
-use Rattle.equilibrium.specs.declared.Layer.{Layer}
+use Rattle.section.specs.declared.Layer.{Layer}
 use Rattle.equilibrium.specs.Code.Whole.{LiftBounds}
 use Rattle.equilibrium.proofs.Sizes.{depth-most, bounds-at, lift-high}
 use Rattle.equilibrium.proofs.Whole.{layer-floor}

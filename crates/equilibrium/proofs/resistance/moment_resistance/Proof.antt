@@ -10,7 +10,7 @@ use borrow.Author.Needs.{needs}
 use Rattle.arith.proofs.Machine.{result}
 use Rattle.arith.proofs.Bound.{fits64}
 use Rattle.equilibrium.specs.Force.{momentResistance}
-use Rattle.equilibrium.specs.Code.Columns.{layersIn}
+use Rattle.section.specs.Code.Columns.{layersIn}
 use Rattle.equilibrium.specs.Code.Whole.{BlockBounds}
 use Rattle.equilibrium.proofs.Sizes.{block-bounds, resistance-in}
 use Rattle.equilibrium.proofs.Whole.{concrete-floor}

@@ -12,14 +12,14 @@ use mir.Val.{toZ}
 use Rattle.arith.specs.Integer.{Within}
 use Rattle.arith.proofs.Bound.{up-to, add-in}
 use Rattle.arith.proofs.Machine.{M, local, call, _⊞_, fits, value}
-use Rattle.equilibrium.specs.declared.Layer.{Layer}
-use Rattle.equilibrium.specs.Code.Usable.{LayerOk}
+use Rattle.section.specs.declared.Layer.{Layer}
+use Rattle.section.specs.Code.Usable.{LayerOk}
 use Rattle.equilibrium.specs.Force.{steelResistance}
-use Rattle.equilibrium.specs.Code.Columns.{layerIn, layersIn}
+use Rattle.section.specs.Code.Columns.{layerIn, layersIn}
 use Rattle.equilibrium.proofs.Sizes.{layer-bound, layer-moment-in}
-use Rattle.equilibrium.proofs.Usable.{layer-at-ok}
-use Rattle.equilibrium.proofs.InColumns.{next-in, over-in}
-use Rattle.equilibrium.proofs.Walk.{sum-step, sum-done}
+use Rattle.section.proofs.Usable.{layer-at-ok}
+use Rattle.section.proofs.InColumns.{next-in, over-in}
+use Rattle.section.proofs.Walk.{sum-step, sum-done}
 use Rattle.equilibrium.proofs.resistance.steel_resistance.Statement.{statement}
 use Rattle.equilibrium.proofs.resistance.steel_resistance.Tie as tie
 

@@ -14,9 +14,9 @@ use Rattle.arith.specs.Greatest.{greatest}
 use Rattle.arith.proofs.Greatest as greatest-laws
 use Rattle.arith.proofs.Greatest.{NeverBack, Candidates, le-greatest, kept, dropped, between, found}
 use Rattle.arith.proofs.Machine.{field}
-use Rattle.equilibrium.specs.declared.Layer.{Layer}
+use Rattle.section.specs.declared.Layer.{Layer}
 use Rattle.equilibrium.specs.Refusals.{carries}
-use Rattle.equilibrium.specs.Code.Columns.{layersIn}
+use Rattle.section.specs.Code.Columns.{layersIn}
 use Rattle.equilibrium.specs.Code.Whole.{excess, Trial}
 use Rattle.equilibrium.proofs.Accuracy.{never-back}
 use Rattle.equilibrium.proofs.Sizes.{area-high, excess-in}

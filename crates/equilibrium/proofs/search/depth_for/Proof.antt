@@ -12,10 +12,10 @@ use mir.Val.{toZ, ofZ}
 use mir.Facts.{toZ-ofZ}
 use Rattle.arith.specs.Greatest.{greatest}
 use Rattle.arith.proofs.Machine.{M, nat, fits, value, result, field}
-use Rattle.equilibrium.specs.declared.Layer.{Layer}
+use Rattle.section.specs.declared.Layer.{Layer}
 use Rattle.equilibrium.specs.Refusals.{carries}
 use Rattle.equilibrium.specs.Depth.{depthFor}
-use Rattle.equilibrium.specs.Code.Columns.{layersIn, areaSum}
+use Rattle.section.specs.Code.Columns.{layersIn, areaSum}
 use Rattle.equilibrium.specs.Code.Whole.{restAt, excess}
 use Rattle.equilibrium.proofs.Found.{depth-clauses}
 use Rattle.equilibrium.proofs.Sizes.{area-high, concrete-high}

@@ -8,8 +8,8 @@ use mir.Syntax.{w64}
 use mir.Val.{toZ, ofZ}
 use mir.Facts.{toZ-ofZ}
 use Rattle.arith.proofs.Machine.{result}
-use Rattle.equilibrium.specs.declared.Layer.{Layer}
-use Rattle.equilibrium.specs.Code.Columns.{layersIn}
+use Rattle.section.specs.declared.Layer.{Layer}
+use Rattle.section.specs.Code.Columns.{layersIn}
 use Rattle.equilibrium.specs.Code.Whole.{liftSum, excessBy, excess, ExcessBounds}
 use Rattle.equilibrium.proofs.Sizes.{lift-sum-high, area-high}
 use Rattle.equilibrium.proofs.search.excesses.Statement.{statement}

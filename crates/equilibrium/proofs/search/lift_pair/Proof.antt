@@ -6,13 +6,13 @@ use native.Mathlib.Nat.{zero-add}
 use native.Mathlib.Omega.{arith}
 use borrow.Author.Needs.{needs}
 use lib.ListN.{drop}
-use Rattle.equilibrium.specs.declared.Layer.{Layer}
-use Rattle.equilibrium.specs.Code.Usable.{LayerOk}
-use Rattle.equilibrium.specs.Code.Columns.{layerIn, layersIn}
+use Rattle.section.specs.declared.Layer.{Layer}
+use Rattle.section.specs.Code.Usable.{LayerOk}
+use Rattle.section.specs.Code.Columns.{layerIn, layersIn}
 use Rattle.equilibrium.specs.Code.Whole.{liftSum}
 use Rattle.equilibrium.proofs.Sizes.{bounds-at, lift-sum-high}
-use Rattle.equilibrium.proofs.Usable.{layer-at-ok}
-use Rattle.equilibrium.proofs.InColumns.{next-in, over-in, sum-next, sum-over}
+use Rattle.section.proofs.Usable.{layer-at-ok}
+use Rattle.section.proofs.InColumns.{next-in, over-in, sum-next, sum-over}
 use Rattle.equilibrium.proofs.search.lift_pair.Statement.{statement}
 use Rattle.equilibrium.proofs.search.lift_pair.Tie as tie
 

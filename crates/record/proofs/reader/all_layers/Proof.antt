@@ -6,7 +6,7 @@ use Prim.Native.Nat.{ℕ, _+_, _-_, _≤_, _<_}
 use native.Mathlib.Omega.{arith}
 use lib.ListN.{length, set, length-append}
 use denote.Ref.{now}
-use Rattle.equilibrium.specs.declared.Layer.{Layer}
+use Rattle.section.specs.declared.Layer.{Layer}
 use Rattle.record.specs.Map.{offset}
 use Rattle.record.specs.Fields.{layerBit}
 use Rattle.record.specs.Contents.{layersTo, filled, layerAt}

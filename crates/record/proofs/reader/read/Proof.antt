@@ -12,10 +12,10 @@ use denote.Ref.{now}
 use Rattle.arith.specs.Chain.{orElse}
 use Rattle.arith.proofs.Chain.{first-of}
 use Rattle.arith.proofs.Test.{failed, passed}
-use Rattle.equilibrium.specs.Section.{counted}
-use Rattle.equilibrium.specs.Refusals.{sectionTests, loadTests}
-use Rattle.equilibrium.specs.declared.Section.{Section}
-use Rattle.equilibrium.specs.declared.Load.{Load}
+use Rattle.section.specs.Section.{counted}
+use Rattle.section.specs.Refusals.{sectionTests, loadTests}
+use Rattle.section.specs.declared.Section.{Section}
+use Rattle.section.specs.declared.Load.{Load}
 use Rattle.record.specs.Map.{recordLength, onlyFields, complete}
 use Rattle.record.specs.Refusals.{mapIn}
 use Rattle.record.specs.Read.{refusedReading, readingBy, readOf}

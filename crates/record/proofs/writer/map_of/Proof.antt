@@ -4,9 +4,9 @@ use mathlib.Core.Bool.{Bool}
 use mathlib.Core.Logic.{⊎-elim}
 use Prim.Native.Nat.{ℕ, _+_, _-_, _^_, _≤_, _<_}
 use native.Mathlib.Omega.{arith}
-use Rattle.equilibrium.specs.Section.{counted}
-use Rattle.equilibrium.specs.declared.Section.{Section}
-use Rattle.equilibrium.specs.declared.Load.{Load}
+use Rattle.section.specs.Section.{counted}
+use Rattle.section.specs.declared.Section.{Section}
+use Rattle.section.specs.declared.Load.{Load}
 use Rattle.record.specs.Map.{mapWith}
 use Rattle.record.specs.Fields.{width, fieldOf}
 use Rattle.record.specs.Layout.{writes, mapOf}

@@ -7,7 +7,7 @@ use Prim.Native.Nat.{ℕ, _+_, _-_, _≤_, _<_}
 use native.Mathlib.Omega.{arith}
 use lib.ListN.{length}
 use denote.Ref.{now}
-use Rattle.equilibrium.specs.Section.{counted}
+use Rattle.section.specs.Section.{counted}
 use Rattle.record.specs.Bytes.{placed}
 use Rattle.record.specs.Map.{stands, standing, offset}
 use Rattle.record.specs.Fields.{width, fieldOf}

@@ -8,8 +8,8 @@ use lib.Signed.{mag}
 use denote.Ref.{now}
 use Rattle.arith.specs.Chain.{orElse}
 use Rattle.arith.proofs.Chain.{first-of}
-use Rattle.equilibrium.specs.Section.{counted}
-use Rattle.equilibrium.specs.Refusals.{sectionTests, loadTests}
+use Rattle.section.specs.Section.{counted}
+use Rattle.section.specs.Refusals.{sectionTests, loadTests}
 use Rattle.record.specs.Bytes.{placed}
 use Rattle.record.specs.Map.{recordLength}
 use Rattle.record.specs.declared.fields.Number.{Number}

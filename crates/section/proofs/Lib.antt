@@ -1,0 +1,5 @@
+pub mod Walk
+pub mod OneLayer
+pub mod Usable
+pub mod Turned
+pub mod InColumns

@@ -1,0 +1,5 @@
+pub mod Section
+pub mod Load
+pub mod Refusals
+pub mod Code
+pub mod Turned
