@@ -18,6 +18,7 @@ use Rattle.equilibrium.specs.Refusals.{carries}
 use Rattle.section.specs.Turned.{turned}
 use Rattle.equilibrium.specs.Depth.{findDepth}
 use Rattle.equilibrium.specs.Moment.{momentAt}
+use Rattle.section.proofs.Turned.{usable-turned}
 use Rattle.section.proofs.Usable.{usable-by}
 use Rattle.equilibrium.proofs.Found as equilibrium
 use Rattle.equilibrium.proofs.DepthOne as depthOne
@@ -25,8 +26,6 @@ use Rattle.shear.specs.SizeFactor.{K}
 use Rattle.shear.specs.Shear.{rTest, r, qTest, q}
 use Rattle.clauses.specs.Tension.{tensionLayers, As, dm}
 use Rattle.clauses.specs.Check.{checkOf}
-use Rattle.clauses.specs.Refusals.{facing}
-use Rattle.clauses.proofs.Checking.{usable-facing}
 use Rattle.clauses.proofs.Laws as clauses
 use Rattle.record.specs.Map.{recordLength}
 use Rattle.record.specs.Layout.{mapOf, recordOf}
@@ -56,8 +55,9 @@ beyond-bytes = records.beyond-bytes
 -- ---- of the layers of an accepted section, for either face
 
 -- they are usable, which is what the laws below ask
-pub usable-faces : (s : Section) {x : Design} (M : ℤ) → accepted (counted s) ≡ Ready x → Usable x (s .count) (facing M (x .h) (layersOf s))
-usable-faces s M e = usable-facing M (layersOf s) (usable-by s e)
+pub usable-faces : (s : Section) {x : Design} → accepted (counted s) ≡ Ready x
+    → Usable x (s .count) (layersOf s) × Usable x (s .count) (turned (x .h) (layersOf s))
+usable-faces s e = (usable-by s e, usable-turned (layersOf s) (usable-by s e))
 
 -- test 11 says the same of both faces
 pub one-turned : {x : Design} {n : ℕ} (ls : List Layer) (N : ℤ) → Usable x n ls → carries x (turned (x .h) ls) N 1 ≡ carries x ls N 1

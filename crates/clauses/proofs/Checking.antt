@@ -1,12 +1,12 @@
--- What Check answers: the face compressed, and its accuracy. Assumes nothing.
+-- What Check answers of both faces, and its accuracy. Assumes nothing.
 use Prim.Native.Nat.{ℕ, zero, suc}
-use mathlib.Core.Bool.{Bool, true, false, cond}
+use mathlib.Core.Bool.{Bool, true, false, _&&_, cond}
 use mathlib.Core.List.{List, _++_}
-use mathlib.Core.Path.{_≡_, refl, sym, ap, _∙_}
+use mathlib.Core.Path.{_≡_, refl, sym, ap, subst, _∙_}
 use native.Mathlib.Omega.{arith}
-use lib.IntN.{ℤ, pos}
+use lib.IntN.{pos}
 use lib.Signed.{leZ}
-use Rattle.arith.specs.Chain.{orElse, firstFailing}
+use Rattle.arith.specs.Chain.{test, orElse, firstFailing}
 use Rattle.arith.proofs.Chain.{first-of}
 use Rattle.section.specs.declared.Layer.{Layer}
 use Rattle.section.specs.declared.Section.{Section}
@@ -18,73 +18,112 @@ use Rattle.equilibrium.specs.declared.Depth.{Depth}
 use Rattle.equilibrium.specs.declared.Depth.the-variants as depth
 use Rattle.section.specs.Section.{layersOf, counted}
 use Rattle.section.specs.Refusals.{accepted, loadTests, answer}
-use Rattle.equilibrium.specs.Refusals.{faceTests}
-use Rattle.section.specs.Code.Usable.{Usable}
+use Rattle.equilibrium.specs.Refusals.{carries, reaches}
 use Rattle.section.specs.Turned.{turned}
+use Rattle.equilibrium.specs.Force.{momentResistance}
 use Rattle.equilibrium.specs.Depth.{depthAnswer, depthFor}
 use Rattle.equilibrium.specs.Accuracy.{Accurate, PromisedDepth}
 use Rattle.section.proofs.Usable.{usable-by, call-refused, call-ready, call-numbered}
+use Rattle.equilibrium.proofs.DepthOne.{one-turned}
 use Rattle.equilibrium.proofs.Found.{depth-promise}
 use Rattle.section.proofs.Turned.{usable-turned}
+use Rattle.clauses.specs.declared.Face.{Face}
+use Rattle.clauses.specs.declared.Report.{Report}
 use Rattle.clauses.specs.declared.Checked.{Checked}
 use Rattle.clauses.specs.declared.Checked.the-variants.{Done, Refused}
-use Rattle.clauses.specs.Refusals.{facing, compressedTests, checkTests}
-use Rattle.clauses.specs.Check.{reportAt, reported, checkFace, checkIn, checkOf, refusalNumber}
-use Rattle.clauses.specs.Accuracy.{AccurateReport, AccurateCheck}
-
--- ---- the face compressed
-
-pub usable-facing : {x : Design} {count : ℕ} (M : ℤ) (ls : List Layer) → Usable x count ls → Usable x count (facing M (x .h) ls)
-usable-facing {x} {count} M ls w = go (leZ (pos 0) M)
-  where
-    go : (top : Bool) → Usable x count (cond top ls (turned (x .h) ls))
-    go true = w
-    go false = usable-turned ls w
+use Rattle.clauses.specs.Refusals.{facesTests, facesTestsOf, checkTests}
+use Rattle.clauses.specs.Check.{topFace, bottomFace, reportOf, reportAt, reported, checkFaces, checkIn, checkOf, refusalNumber}
+use Rattle.clauses.specs.Verdicts.{numberOf, first}
+use Rattle.clauses.specs.Accuracy.{topOf, bottomOf, AccurateFaces, AccurateReport, AccurateCheck}
 
 -- ---- the answer of Check, by cases of the section tests and of the load tests
 
--- of a face: what `depthFor` says of it
-by-depth : (x : Design) (ls : List Layer) (load : Load) (d : Depth) → Checked
-by-depth x ls load (depth.Refused k) = Refused k
-by-depth x ls load (depth.At u) = Done (reportAt x ls load u)
+-- of both faces: what `depthFor` says of each
+by-depths : (x : Design) (top bottom : List Layer) (load : Load) → Depth → Depth → Checked
+by-depths x top bottom load (depth.Refused k) d = Refused k
+by-depths x top bottom load (depth.At t) (depth.Refused k) = Refused k
+by-depths x top bottom load (depth.At t) (depth.At b) = Done (reportAt x load top bottom t b)
 
-module _ (x : Design) (ls : List Layer) (load : Load) where
-  as-found : (k : ℕ) → by-depth x ls load (depthAnswer ls (load .n) k (section.Ready x)) ≡ answer Refused (reported ls load) k (section.Ready x)
-  unfolding by-depth
-  as-found zero = refl
-  as-found (suc k) = refl
+module _ (x : Design) (top bottom : List Layer) (load : Load) where
+  -- by cases of the test for 11, which both share, and of each one's test for 12
+  as-found : (one high low : Bool)
+      → by-depths x top bottom load (depthAnswer top (load .n) (orElse (test 11 one) (orElse (test 12 high) 0)) (section.Ready x))
+      (depthAnswer bottom (load .n) (orElse (test 11 one) (orElse (test 12 low) 0)) (section.Ready x))
+      ≡ answer Refused (reported top bottom load) (orElse (test 11 one) (orElse (test 12 (high && low)) 0)) (section.Ready x)
+  unfolding by-depths
+  as-found false high low = refl
+  as-found true false low = refl
+  as-found true true false = refl
+  as-found true true true = refl
 
-  face-by-depth : by-depth x ls load (depthFor x ls (load .n)) ≡ checkFace x ls load
-  unfolding depthFor checkFace
-  face-by-depth = as-found (firstFailing (faceTests x ls (load .n)))
+  module _ (same : carries x bottom (load .n) 1 ≡ carries x top (load .n) 1) where
+    faces-by-depths : by-depths x top bottom load (depthFor x top (load .n)) (depthFor x bottom (load .n)) ≡ checkFaces x top bottom load
+    unfolding depthFor checkFaces
+    faces-by-depths = rw same (as-found (carries x top (load .n) 1) (reaches x top (load .n)) (reaches x bottom (load .n)))
 
-  pub face-refused : {k : ℕ} → depthFor x ls (load .n) ≡ depth.Refused k → Refused k ≡ checkFace x ls load
-  unfolding by-depth
-  face-refused e = rw e at face-by-depth
+    pub top-refused : {k : ℕ} → depthFor x top (load .n) ≡ depth.Refused k → Refused k ≡ checkFaces x top bottom load
+    unfolding by-depths
+    top-refused e = rw e at faces-by-depths
 
-  pub face-at : {u : ℕ} → depthFor x ls (load .n) ≡ depth.At u → Done (reportAt x ls load u) ≡ checkFace x ls load
-  unfolding by-depth
-  face-at e = rw e at face-by-depth
+    pub bottom-refused : {t k : ℕ} → depthFor x top (load .n) ≡ depth.At t → depthFor x bottom (load .n) ≡ depth.Refused k
+        → Refused k ≡ checkFaces x top bottom load
+    unfolding by-depths
+    bottom-refused e f = rw (e, f) at faces-by-depths
+
+    pub both-at : {t b : ℕ} → depthFor x top (load .n) ≡ depth.At t → depthFor x bottom (load .n) ≡ depth.At b
+        → Done (reportAt x load top bottom t b) ≡ checkFaces x top bottom load
+    unfolding by-depths
+    both-at e f = rw (e, f) at faces-by-depths
+
+  pub one-refused : carries x top (load .n) 1 ≡ false → Refused 11 ≡ checkFaces x top bottom load
+  unfolding checkFaces
+  one-refused e = rw e
+
+-- ---- a report's faces are the top and the bottom, whatever the sign of M
+
+module _ (x : Design) (load : Load) (top bottom : List Layer) (t b : ℕ) where
+  abbrev report : Report
+  report = reportAt x load top bottom t b
+
+  top-is : topOf (load .m) report ≡ topFace x load top bottom t b
+  unfolding reportAt reportOf
+  top-is = go (leZ (pos 0) (load .m)) (topFace x load top bottom t b) (bottomFace x load top bottom t b)
+    where
+      go : (z : Bool) (f g : Face) → cond z (record { u = cond z f g .u; mrd = cond z f g .mrd }) (cond z g f) ≡ f
+      go true f g = refl
+      go false f g = refl
+
+  bottom-is : bottomOf (load .m) report ≡ bottomFace x load top bottom t b
+  unfolding reportAt reportOf
+  bottom-is = go (leZ (pos 0) (load .m)) (topFace x load top bottom t b) (bottomFace x load top bottom t b)
+    where
+      go : (z : Bool) (f g : Face) → cond z (cond z g f) (record { u = cond z f g .u; mrd = cond z f g .mrd }) ≡ g
+      go true f g = refl
+      go false f g = refl
+
+  moment-is : report .moment ≡ numberOf (first (load .m) (momentResistance x top t) (momentResistance x bottom b))
+  unfolding reportAt reportOf
+  moment-is = refl
 
 module _ (s : Section) (load : Load) where
   abbrev found : Design → Checked
-  found x = reported (facing (load .m) (x .h) (layersOf s)) load x
+  found x = reported (layersOf s) (turned (x .h) (layersOf s)) load x
 
   abbrev under-load : Accepted → List ℕ
-  under-load a = loadTests load ++ compressedTests (layersOf s) load a
+  under-load a = loadTests load ++ facesTestsOf a (layersOf s) (load .n)
 
   pub check-refused : {k : ℕ} → accepted (counted s) ≡ section.Refused k → Refused k ≡ checkOf s load
   unfolding checkIn
   check-refused e = sym (call-refused Refused found s under-load e)
 
-  -- of an accepted section the load tests come next, and then those of the face
+  -- of an accepted section the load tests come next, and then those of the faces
   check-ready : {x : Design} → accepted (counted s) ≡ section.Ready x
       → checkOf s load ≡ answer Refused found
-      (orElse (firstFailing (loadTests load)) (firstFailing (faceTests x (facing (load .m) (x .h) (layersOf s)) (load .n)))) (section.Ready x)
+      (orElse (firstFailing (loadTests load)) (firstFailing (facesTests x (layersOf s) (turned (x .h) (layersOf s)) (load .n)))) (section.Ready x)
   unfolding checkIn
   check-ready {x} e =
       call-ready Refused found s under-load e
-      ∙ ap (λ (k : ℕ). answer Refused found k (section.Ready x)) (first-of (loadTests load) (faceTests x (facing (load .m) (x .h) (layersOf s)) (load .n)))
+      ∙ ap (λ (k : ℕ). answer Refused found k (section.Ready x)) (first-of (loadTests load) (facesTests x (layersOf s) (turned (x .h) (layersOf s)) (load .n)))
 
   pub load-refused : {x : Design} (k : ℕ) → accepted (counted s) ≡ section.Ready x → k ≡ firstFailing (loadTests load) → (k ≡ 0 → ⊥)
       → Refused k ≡ checkOf s load
@@ -92,43 +131,58 @@ module _ (s : Section) (load : Load) where
   load-refused (suc k) e is some = sym (check-ready e ∙ rw (sym is))
 
   pub load-passed : {x : Design} → accepted (counted s) ≡ section.Ready x → firstFailing (loadTests load) ≡ 0
-      → checkFace x (facing (load .m) (x .h) (layersOf s)) load ≡ checkOf s load
-  unfolding checkFace
-  load-passed {x} e none = sym (check-ready e ∙ rw none (of-face (firstFailing (faceTests x (facing (load .m) (x .h) (layersOf s)) (load .n)))))
+      → checkFaces x (layersOf s) (turned (x .h) (layersOf s)) load ≡ checkOf s load
+  unfolding checkFaces
+  load-passed {x} e none = sym (check-ready e ∙ rw none (of-faces (firstFailing (facesTests x (layersOf s) (turned (x .h) (layersOf s)) (load .n)))))
     where
-      of-face : (k : ℕ) → answer Refused found k (section.Ready x) ≡ answer Refused (reported (facing (load .m) (x .h) (layersOf s)) load) k (section.Ready x)
-      of-face zero = refl
-      of-face (suc k) = refl
+      of-faces : (k : ℕ) → answer Refused found k (section.Ready x)
+          ≡ answer Refused (reported (layersOf s) (turned (x .h) (layersOf s)) load) k (section.Ready x)
+      of-faces zero = refl
+      of-faces (suc k) = refl
 
   check-numbered : refusalNumber (checkOf s load) ≡ firstFailing (checkTests (counted s) load)
   unfolding checkIn
   check-numbered = call-numbered Refused found s under-load refusalNumber (λ k. refl) (λ x. refl)
 
-  -- ---- accuracy
+  -- ---- accuracy: of each face, from the promise of its depth
 
-  -- of the face that M compresses
-  abbrev AccurateFace : Design → List Layer → Checked → Type 0
-  AccurateFace x ls (Done r) = Accurate x ls (load .n) (r .u) (r .mrd)
-  AccurateFace x ls (Refused k) = Unit {0}
+  abbrev Both : Design → Checked → Type 0
+  Both x (Done r) = AccurateFaces x (layersOf s) load r
+  Both x (Refused k) = Unit {0}
 
-  -- from the promise of the depth
-  from-depth : (x : Design) (ls : List Layer) (d : Depth) → PromisedDepth x ls (load .n) d → AccurateFace x ls (by-depth x ls load d)
-  unfolding by-depth reportAt
-  from-depth x ls (depth.At u) p = p .accurate
-  from-depth x ls (depth.Refused k) p = tt
+  of-report : (x : Design) (t b : ℕ) → Accurate x (layersOf s) (load .n) t (momentResistance x (layersOf s) t)
+      → Accurate x (turned (x .h) (layersOf s)) (load .n) b (momentResistance x (turned (x .h) (layersOf s)) b)
+      → AccurateFaces x (layersOf s) load (reportAt x load (layersOf s) (turned (x .h) (layersOf s)) t b)
+  of-report x t b p q =
+      let ls = layersOf s in
+      let top = top-is x load ls (turned (x .h) ls) t b in
+      let bottom = bottom-is x load ls (turned (x .h) ls) t b in
+      record {
+        top = subst (λ (f : Face). Accurate x ls (load .n) (f .u) (f .mrd)) (sym top) p;
+        bottom = subst (λ (f : Face). Accurate x (turned (x .h) ls) (load .n) (f .u) (f .mrd)) (sym bottom) q;
+        taken = moment-is x load ls (turned (x .h) ls) t b ∙ (λ i. numberOf (first (load .m) (sym top i .mrd) (sym bottom i .mrd)));
+      }
 
-  face-accurate : {count : ℕ} (x : Design) (ls : List Layer) → Usable x count ls → AccurateFace x ls (checkFace x ls load)
-  face-accurate x ls w = rw (← face-by-depth x ls load) (from-depth x ls (depthFor x ls (load .n)) (depth-promise (load .n) w))
+  from-depths : (x : Design) (dt db : Depth) → PromisedDepth x (layersOf s) (load .n) dt → PromisedDepth x (turned (x .h) (layersOf s)) (load .n) db
+      → Both x (by-depths x (layersOf s) (turned (x .h) (layersOf s)) load dt db)
+  unfolding by-depths
+  from-depths x (depth.Refused k) db p q = tt
+  from-depths x (depth.At t) (depth.Refused k) p q = tt
+  from-depths x (depth.At t) (depth.At b) p q = of-report x t b (p .accurate) (q .accurate)
 
-  whole : (x : Design) (r : Checked) → AccurateFace x (facing (load .m) (x .h) (layersOf s)) r → AccurateReport (layersOf s) load (section.Ready x) r
+  whole : (x : Design) (r : Checked) → Both x r → AccurateReport (layersOf s) load (section.Ready x) r
   whole x (Done r) h = h
   whole x (Refused k) h = tt
 
   accurate-under : {x : Design} (k : ℕ) → k ≡ firstFailing (loadTests load) → accepted (counted s) ≡ section.Ready x
       → AccurateReport (layersOf s) load (section.Ready x) (checkOf s load)
   accurate-under {x} zero none e =
-      let ls = facing (load .m) (x .h) (layersOf s) in
-      rw (← load-passed e (sym none)) (whole x (checkFace x ls load) (face-accurate x ls (usable-facing (load .m) (layersOf s) (usable-by s e))))
+      let ls = layersOf s in
+      let w = usable-by s e in
+      let both = from-depths x (depthFor x ls (load .n)) (depthFor x (turned (x .h) ls) (load .n)) (depth-promise (load .n) w)
+      (depth-promise (load .n) (usable-turned ls w)) in
+      rw (← load-passed e (sym none)) (whole x (checkFaces x ls (turned (x .h) ls) load)
+      (rw (← faces-by-depths x ls (turned (x .h) ls) load (one-turned ls (load .n) w)) both))
   accurate-under (suc k) some e = rw (← load-refused (suc k) e some (λ z. omega arith)) tt
 
   accurate-for : (a : Accepted) → accepted (counted s) ≡ a → AccurateReport (layersOf s) load a (checkOf s load)

@@ -1,21 +1,40 @@
--- The accuracy statement, demand 3 of document 01, of Check. Assumes nothing.
+-- The accuracy statement, demand 3 of document 01 and 02's ticket 1, of Check. Assumes nothing.
 use mathlib.Core.List.{List}
+use mathlib.Core.Path.{_≡_}
+use lib.IntN.{ℤ}
 use Rattle.section.specs.declared.Layer.{Layer}
 use Rattle.section.specs.declared.Section.{Section}
 use Rattle.section.specs.declared.Load.{Load}
+use Rattle.section.specs.declared.Design.{Design}
 use Rattle.section.specs.declared.Accepted.{Accepted}
 use Rattle.section.specs.declared.Accepted.the-variants as section
 use Rattle.section.specs.Section.{counted}
 use Rattle.section.specs.Refusals.{accepted}
+use Rattle.section.specs.Turned.{turned}
 use Rattle.equilibrium.specs.Accuracy.{Accurate}
+use Rattle.clauses.specs.declared.Face.{Face}
+use Rattle.clauses.specs.declared.Report.{Report}
 use Rattle.clauses.specs.declared.Checked.{Checked}
 use Rattle.clauses.specs.declared.Checked.the-variants.{Done, Refused}
-use Rattle.clauses.specs.Refusals.{facing}
+use Rattle.clauses.specs.Check.{ofCompressed, ofOther}
+use Rattle.clauses.specs.Verdicts.{numberOf, first}
 
--- The depth that Check answers and the MRd that it reports are accurate for the face compressed in that call, for M < 0 of
--- the section turned over; and only an accepted section has them.
+-- the two faces of a report: for M ≥ 0 the top is the one compressed, for M < 0 the other
+abbrev pub topOf : ℤ → Report → Face
+topOf M r = ofCompressed M (record { u = r .u; mrd = r .mrd }) (r .other)
+
+abbrev pub bottomOf : ℤ → Report → Face
+bottomOf M r = ofOther M (record { u = r .u; mrd = r .mrd }) (r .other)
+
+-- The depth of each face is accurate, with the resistance that verdict one takes for it.
+pub record AccurateFaces (x : Design) (ls : List Layer) (load : Load) (r : Report) : Type 0 where
+  pub top : Accurate x ls (load .n) (topOf (load .m) r .u) (topOf (load .m) r .mrd)
+  pub bottom : Accurate x (turned (x .h) ls) (load .n) (bottomOf (load .m) r .u) (bottomOf (load .m) r .mrd)
+  pub taken : r .moment ≡ numberOf (first (load .m) (topOf (load .m) r .mrd) (bottomOf (load .m) r .mrd))
+
+-- Of Check; and only an accepted section has a report.
 abbrev pub AccurateReport : List Layer → Load → Accepted → Checked → Type 0
-AccurateReport ls load (section.Ready x) (Done r) = Accurate x (facing (load .m) (x .h) ls) (load .n) (r .u) (r .mrd)
+AccurateReport ls load (section.Ready x) (Done r) = AccurateFaces x ls load r
 AccurateReport ls load (section.Refused k) (Done r) = ⊥
 AccurateReport ls load a (Refused k) = Unit {0}
 

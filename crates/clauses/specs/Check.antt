@@ -1,8 +1,10 @@
--- Check: document 01, "Verdicts". Assumes nothing.
+-- Check: document 01, "Verdicts", with both faces of 02's ticket 1. Assumes nothing.
 use Prim.Native.Nat.{ℕ}
+use mathlib.Core.Bool.{cond}
 use mathlib.Core.List.{List, [], _∷_}
 use lib.IntN.{ℤ, pos}
 use lib.ListN.{replicate}
+use lib.Signed.{leZ}
 use Rattle.arith.specs.Chain.{firstFailing}
 use Rattle.section.specs.declared.Layer.{Layer}
 use Rattle.section.specs.declared.Section.{Section}
@@ -11,67 +13,99 @@ use Rattle.section.specs.declared.Design.{Design}
 use Rattle.section.specs.declared.Accepted.the-variants as section
 use Rattle.section.specs.Section.{Counted, counted}
 use Rattle.section.specs.Refusals.{accepted, answer}
-use Rattle.equilibrium.specs.Refusals.{faceTests}
+use Rattle.section.specs.Turned.{turned}
 use Rattle.equilibrium.specs.Force.{momentResistance}
 use Rattle.equilibrium.specs.Depth.{depthUnder}
 use Rattle.shear.specs.Shear.{VRdc}
+use Rattle.clauses.specs.declared.Face.{Face}
 use Rattle.clauses.specs.declared.Listed.{Listed}
 use Rattle.clauses.specs.declared.Report.{Report}
+use Rattle.clauses.specs.declared.Verdict.{Verdict}
 use Rattle.clauses.specs.declared.Checked.{Checked}
 use Rattle.clauses.specs.declared.Checked.the-variants.{Done, Refused}
 use Rattle.clauses.specs.Tension.{areaOf, As, dm}
-use Rattle.clauses.specs.Refusals.{facing, checkTests}
+use Rattle.clauses.specs.Refusals.{facesTests, checkTests}
 use Rattle.clauses.specs.Verdicts.{numberOf, first, second, third, fourth, fifth}
 
--- u, MRd, VRd,c, dm, As and the five verdicts, for the face compressed
-module _ (x : Design) (ls : List Layer) (load : Load) (u : ℕ) where
-  abbrev mrd : ℤ
-  mrd = momentResistance x ls u
+-- of two things of the faces, that of the face which M compresses: the top for M ≥ 0, the bottom for M < 0
+abbrev pub ofCompressed : {A : Type 0} → ℤ → A → A → A
+ofCompressed M top bottom = cond (leZ (pos 0) M) top bottom
 
+-- and that of the other face
+abbrev pub ofOther : {A : Type 0} → ℤ → A → A → A
+ofOther M top bottom = cond (leZ (pos 0) M) bottom top
+
+-- u and MRd of the face that M compresses and of the other, VRd,c, dm, As and the five verdicts, with the layers as the compressed face
+-- sees them
+module _ (x : Design) (ls : List Layer) (load : Load) (face other : Face) (moment : Verdict) where
   abbrev area : ℕ
-  area = As u ls
+  area = As (face .u) ls
 
   abbrev mean : ℕ
-  mean = dm u ls
+  mean = dm (face .u) ls
 
   abbrev vrd : ℕ
   vrd = VRdc record { b = x .b; h = x .h; fck = x .m .fck; g = x .m .g; N = load .n; As = area; dm = mean }
 
-  unfoldable pub reportAt : Report
-  reportAt =
+  unfoldable pub reportOf : Report
+  reportOf =
       record {
-        u = u;
-        mrd = mrd;
+        u = face .u;
+        mrd = face .mrd;
+        other = other;
         vrd = vrd;
         dm = mean;
         area = area;
-        moment = numberOf (first (load .m) mrd);
-        depth = numberOf (second (x .m .fck) u area mean);
+        moment = numberOf moment;
+        depth = numberOf (second (x .m .fck) (face .u) area mean);
         shear = numberOf (third (load .v) vrd area);
         least = numberOf (fourth (x .m .t) (x .m .fyk) (x .b) area mean);
         most = numberOf (fifth (areaOf ls) (x .b) (x .h));
       }
 
--- the report at the depth that a face has under N
-abbrev pub reported : List Layer → Load → Design → Checked
-reported ls load x = Done (reportAt x ls load (depthUnder ls (load .n) x))
+-- of both faces, which see the layers as `top` and `bottom`, at the depths t and b
+module _ (x : Design) (load : Load) (top bottom : List Layer) (t b : ℕ) where
+  abbrev pub topFace : Face
+  topFace = record { u = t; mrd = momentResistance x top t }
 
--- 11, 12 or the report, for a face of an accepted section under a load in its range
-unfoldable pub checkFace : Design → List Layer → Load → Checked
-checkFace x ls load = answer Refused (reported ls load) (firstFailing (faceTests x ls (load .n))) (section.Ready x)
+  abbrev pub bottomFace : Face
+  bottomFace = record { u = b; mrd = momentResistance x bottom b }
 
--- Check, for the face that M compresses
+  unfoldable pub reportAt : Report
+  reportAt =
+      reportOf x (ofCompressed (load .m) top bottom) load (ofCompressed (load .m) topFace bottomFace) (ofOther (load .m) topFace bottomFace)
+      (first (load .m) (topFace .mrd) (bottomFace .mrd))
+
+-- the report, each face at the depth that it has under N
+abbrev pub reported : List Layer → List Layer → Load → Design → Checked
+reported top bottom load x = Done (reportAt x load top bottom (depthUnder top (load .n) x) (depthUnder bottom (load .n) x))
+
+-- 11, 12 or the report, for both faces of an accepted section under a load in its range
+unfoldable pub checkFaces : Design → List Layer → List Layer → Load → Checked
+checkFaces x top bottom load = answer Refused (reported top bottom load) (firstFailing (facesTests x top bottom (load .n))) (section.Ready x)
+
+-- Check: the top sees the layers as they are, the bottom sees them turned over
 unfoldable pub checkIn : Counted → Load → Checked
 checkIn c load =
-    answer Refused (λ x. reported (facing (load .m) (x .h) (c .layers)) load x) (firstFailing (checkTests c load)) (accepted c)
+    answer Refused (λ x. reported (c .layers) (turned (x .h) (c .layers)) load x) (firstFailing (checkTests c load)) (accepted c)
 
 abbrev pub checkOf : Section → Load → Checked
 checkOf s load = checkIn (counted s) load
 
--- ---- the paper's number and values for each case of the answer: the refusal, 0 for none, u, MRd, VRd,c, dm, As and the verdicts in
--- 01's sequence; a refusal has zeros and a 2 for each verdict
+-- ---- the paper's number and values for each case of the answer: the refusal, 0 for none, u and MRd of both faces, VRd,c, dm, As and the
+-- verdicts in 01's sequence; a refusal has zeros and a 2 for each verdict
 abbrev pub refusedListed : ℕ → Listed
-refusedListed k = record { refusal = k; u = 0; mrd = pos 0; vrd = 0; dm = 0; area = 0; verdicts = replicate 5 2 }
+refusedListed k =
+    record {
+      refusal = k;
+      u = 0;
+      mrd = pos 0;
+      other = record { u = 0; mrd = pos 0 };
+      vrd = 0;
+      dm = 0;
+      area = 0;
+      verdicts = replicate 5 2;
+    }
 
 abbrev pub listed : Checked → Listed
 listed (Refused k) = refusedListed k
@@ -80,6 +114,7 @@ listed (Done r) =
       refusal = 0;
       u = r .u;
       mrd = r .mrd;
+      other = r .other;
       vrd = r .vrd;
       dm = r .dm;
       area = r .area;

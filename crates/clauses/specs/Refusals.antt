@@ -1,28 +1,34 @@
--- When Check is turned down: document 01. Its sequence of tests is a list, in 01's order; the first that fails gives the refusal. The
--- pieces are those of the page `Refusals` of the equilibrium. Assumes nothing.
-use Prim.Native.Nat.{ℕ}
-use mathlib.Core.Bool.{cond}
-use mathlib.Core.List.{List, [], _++_}
-use lib.IntN.{ℤ, pos}
-use lib.Signed.{leZ}
+-- When Check is turned down: document 01, and 02's ticket 1 on 12. Its sequence of tests is a list, in 01's order; the first that fails
+-- gives the refusal. The section tests and the load tests stand on the page `Refusals` of the section. Assumes nothing.
+use Prim.Native.Nat.{ℕ, _*_}
+use mathlib.Core.Bool.{_&&_}
+use mathlib.Core.List.{List, [], _∷_, _++_}
+use lib.IntN.{ℤ}
+use Rattle.arith.specs.Chain.{test}
 use Rattle.section.specs.declared.Layer.{Layer}
 use Rattle.section.specs.declared.Load.{Load}
+use Rattle.section.specs.declared.Design.{Design}
 use Rattle.section.specs.declared.Accepted.{Accepted}
 use Rattle.section.specs.declared.Accepted.the-variants as section
 use Rattle.section.specs.Section.{Counted}
 use Rattle.section.specs.Refusals.{sectionTests, loadTests, accepted}
-use Rattle.equilibrium.specs.Refusals.{faceTests}
 use Rattle.section.specs.Turned.{turned}
+use Rattle.equilibrium.specs.Refusals.{carries, reaches}
 
--- the layers as the compressed face sees them: the top for M ≥ 0, and for M < 0 the section turned over
-abbrev pub facing : ℤ → ℕ → List Layer → List Layer
-facing M h ls = cond (leZ (pos 0) M) ls (turned h ls)
+-- what N asks of both faces, whose layers are `top` and `bottom` as each face sees them
+abbrev pub facesTests : Design → List Layer → List Layer → ℤ → List ℕ
+facesTests x top bottom N =
+    -- 11 N below the internal force at depth 1, which is the same for both
+    test 11 (carries x top N 1)
+    -- 12 N above the internal force at depth 10h of either
+    ∷ test 12 (reaches x top N && reaches x bottom N)
+    ∷ []
 
--- 11 and 12 for the face compressed
-abbrev pub compressedTests : List Layer → Load → Accepted → List ℕ
-compressedTests ls load (section.Ready x) = faceTests x (facing (load .m) (x .h) ls) (load .n)
-compressedTests ls load (section.Refused k) = []
+-- of an accepted section: the bottom sees it turned over
+abbrev pub facesTestsOf : Accepted → List Layer → ℤ → List ℕ
+facesTestsOf (section.Ready x) ls N = facesTests x ls (turned (x .h) ls) N
+facesTestsOf (section.Refused k) ls N = []
 
 -- Check: the section tests, the load tests, then 11 and 12
 abbrev pub checkTests : Counted → Load → List ℕ
-checkTests c load = sectionTests c ++ (loadTests load ++ compressedTests (c .layers) load (accepted c))
+checkTests c load = sectionTests c ++ (loadTests load ++ facesTestsOf (accepted c) (c .layers) (load .n))

@@ -2,7 +2,7 @@
 use Prim.Native.Nat.{ℕ, _*_}
 use mathlib.Core.Bool.{Bool, cond, _&&_}
 use lib.Dec.{leb}
-use lib.IntN.{ℤ, pos, natAbs}
+use lib.IntN.{ℤ, natAbs, negℤ}
 use lib.Signed.{leZ}
 use Rattle.arith.specs.Chain.{unless}
 use Rattle.clauses.specs.declared.Verdict.{Verdict}
@@ -21,9 +21,10 @@ judged t = cond t Pass Fail
 abbrev pub reached : ℕ → Verdict → Verdict
 reached As verdict = unless (leb 1 As) NotReached verdict
 
--- one, 6.1: pass when |M| ≤ MRd, which may be negative
-abbrev pub first : ℤ → ℤ → Verdict
-first M MRd = judged (leZ (pos (natAbs M)) MRd)
+-- one, 6.1: pass when M is at most MRd with the top compressed, and at least −MRd with the bottom compressed. Either may be negative,
+-- and no M need lie between them.
+abbrev pub first : ℤ → ℤ → ℤ → Verdict
+first M top bottom = judged (leZ M top && leZ (negℤ bottom) M)
 
 -- two, 5.6.3(2): 10u ≤ 45·dm up to fck 50, else 10u ≤ 35·dm
 abbrev pub second : ℕ → ℕ → ℕ → ℕ → Verdict

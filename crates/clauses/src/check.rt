@@ -1,46 +1,55 @@
-// Check: depth, resistances and verdicts for the face that M compresses. Document 01, "Verdicts".
+// Check: depth, resistances and verdicts of both faces. Document 01, "Verdicts".
 use super::Checked;
+use super::Face;
 use super::Report;
+use super::Verdict;
 use super::numbers::verdict_number;
 use super::tension::tension_reinforcement;
 use super::verdicts;
 use equilibrium::Depth;
+use equilibrium::resistance::moment_resistance;
+use equilibrium::search;
 use section::Design;
 use section::Load;
 use section::columns;
 use shear::shear_resistance;
+ghost use mathlib.Core.Bool.{true};
 ghost use mathlib.Core.Path.{_≡_};
 ghost use lib.ListN.{length};
 ghost use Rattle.section.specs.Code.Usable.{Usable, LoadOk};
 ghost use Rattle.section.specs.Code.Columns.{layersIn, areaSum};
-ghost use Rattle.equilibrium.specs.Code.Whole.{DepthOk};
-ghost use Rattle.clauses.specs.Refusals.{facing};
-ghost use Rattle.clauses.specs.Check.{reportAt, checkFace};
+ghost use Rattle.section.specs.Turned.{turned};
+ghost use Rattle.equilibrium.specs.Code.Whole.{DepthOk, carriesAtOne};
+ghost use Rattle.clauses.specs.Check.{reportOf, reportAt, checkFaces};
+ghost use Rattle.clauses.specs.Code.Ranges.{Faces};
 
-// What is reported at the depth u.
-fn report_at(
+// What is reported of the face that M compresses, beside the other face and verdict one.
+fn report_of(
     x: Design,
     count: usize,
     depths: &[u32; 16],
     areas: &[u32; 16],
     steel: u64,
     l: Load,
-    u: u64,
+    face: Face,
+    other: Face,
+    moment: Verdict,
 ) -> Report
     requires { ⌜ Usable x count (layersIn count (now depths) (now areas)) ⌝ }
-    requires { ⌜ (steel ≡ areaSum (layersIn count (now depths) (now areas))) × (LoadOk l × DepthOk x u) ⌝ }
-    ensures { λ r. ⌜ r ≡ reportAt x (layersIn count (now (depths .entry)) (now (areas .entry))) l u ⌝ }
+    requires { ⌜ (steel ≡ areaSum (layersIn count (now depths) (now areas))) × (LoadOk l × DepthOk x (face .u)) ⌝ }
+    ensures { λ r. ⌜ r ≡ reportOf x (layersIn count (now (depths .entry)) (now (areas .entry))) l face other moment ⌝ }
 {
-    let mrd = equilibrium::resistance::moment_resistance(x, count, depths, areas, u);
+    let u = face.u;
     let t = tension_reinforcement(count, depths, areas, u);
     let vrd = shear_resistance(x.b, x.h, x.m.fck, x.m.g, l.n, t.area, t.depth);
     Report {
         u: u,
-        mrd: mrd,
+        mrd: face.mrd,
+        other: other,
         vrd: vrd,
         dm: t.depth,
         area: t.area,
-        moment: verdict_number(verdicts::moment_verdict(l.m, mrd)),
+        moment: verdict_number(moment),
         depth: verdict_number(verdicts::depth_verdict(x.m.fck, u, t.area, t.depth)),
         shear: verdict_number(verdicts::shear_verdict(l.v, vrd, t.area)),
         least: verdict_number(verdicts::least_verdict(x.m.t, x.m.fyk, x.b, t.area, t.depth)),
@@ -48,26 +57,81 @@ fn report_at(
     }
 }
 
-// 11, 12 or the report, for the face from which the depths are measured.
-fn check_face(
+// What is reported at the depths t from the top and b from the bottom.
+fn report_at(
     x: Design,
     count: usize,
-    depths: &[u32; 16],
+    top: &[u32; 16],
+    bottom: &[u32; 16],
+    areas: &[u32; 16],
+    steel: u64,
+    l: Load,
+    t: u64,
+    b: u64,
+) -> Report
+    requires { ⌜ Faces x count (layersIn count (now top) (now areas)) (layersIn count (now bottom) (now areas)) steel l ⌝ }
+    requires { ⌜ DepthOk x t × DepthOk x b ⌝ }
+    ensures { λ r. ⌜ r ≡ reportAt x l (layersIn count (now (top .entry)) (now (areas .entry))) (layersIn count (now (bottom .entry)) (now (areas .entry))) t b ⌝ }
+{
+    let of_top = moment_resistance(x, count, top, areas, t);
+    let of_bottom = moment_resistance(x, count, bottom, areas, b);
+    let moment = verdicts::moment_verdict(l.m, of_top, of_bottom);
+    let top_face = Face { u: t, mrd: of_top };
+    let bottom_face = Face {
+        u: b,
+        mrd: of_bottom,
+    };
+    if 0 <= l.m {
+        report_of(
+            x,
+            count,
+            top,
+            areas,
+            steel,
+            l,
+            top_face,
+            bottom_face,
+            moment,
+        )
+    } else {
+        report_of(
+            x,
+            count,
+            bottom,
+            areas,
+            steel,
+            l,
+            bottom_face,
+            top_face,
+            moment,
+        )
+    }
+}
+
+// 12 or the report, where depth 1 carries: one search for each face.
+fn check_faces(
+    x: Design,
+    count: usize,
+    top: &[u32; 16],
+    bottom: &[u32; 16],
     areas: &[u32; 16],
     steel: u64,
     l: Load,
 ) -> Checked
-    requires { ⌜ Usable x count (layersIn count (now depths) (now areas)) ⌝ }
-    requires { ⌜ (steel ≡ areaSum (layersIn count (now depths) (now areas))) × LoadOk l ⌝ }
-    ensures { λ r. ⌜ r ≡ checkFace x (layersIn count (now (depths .entry)) (now (areas .entry))) l ⌝ }
+    requires { ⌜ Faces x count (layersIn count (now top) (now areas)) (layersIn count (now bottom) (now areas)) steel l ⌝ }
+    requires { ⌜ carriesAtOne x steel (l .n) ≡ true ⌝ }
+    ensures { λ r. ⌜ r ≡ checkFaces x (layersIn count (now (top .entry)) (now (areas .entry))) (layersIn count (now (bottom .entry)) (now (areas .entry))) l ⌝ }
 {
-    match equilibrium::search::depth_for(x, count, depths, areas, steel, l.n) {
+    match search::depth_above_one(x, count, top, areas, steel, l.n) {
         Depth::Refused(k) => Checked::Refused(k),
-        Depth::At(u) => Checked::Done(report_at(x, count, depths, areas, steel, l, u)),
+        Depth::At(t) => match search::depth_above_one(x, count, bottom, areas, steel, l.n) {
+            Depth::Refused(k) => Checked::Refused(k),
+            Depth::At(b) => Checked::Done(report_at(x, count, top, bottom, areas, steel, l, t, b)),
+        },
     }
 }
 
-// An accepted section in columns, under a load that passed its tests: for M < 0 turned over.
+// An accepted section in columns, under a load that passed its tests. 11 is asked once for both faces.
 pub fn check_accepted(
     x: Design,
     count: usize,
@@ -77,13 +141,13 @@ pub fn check_accepted(
 ) -> Checked
     requires { ⌜ Usable x count (layersIn count (now depths) (now areas)) ⌝ }
     requires { ⌜ LoadOk l × (length (now depths) ≡ 16) ⌝ }
-    ensures { λ r. ⌜ r ≡ checkFace x (facing (l .m) (x .h) (layersIn count (now (depths .entry)) (now (areas .entry)))) l ⌝ }
+    ensures { λ r. ⌜ r ≡ checkFaces x (layersIn count (now (depths .entry)) (now (areas .entry))) (turned (x .h) (layersIn count (now (depths .entry)) (now (areas .entry)))) l ⌝ }
 {
     let steel = columns::steel_area(count, areas);
-    if 0 <= l.m {
-        return check_face(x, count, depths, areas, steel, l);
+    if !search::carries_at_one(x, steel, l.n) {
+        return Checked::Refused(11);
     }
-    let mut turned = [0u32; 16];
-    columns::turn_over(x.h, depths, &mut turned);
-    check_face(x, count, &turned, areas, steel, l)
+    let mut bottom = [0u32; 16];
+    columns::turn_over(x.h, depths, &mut bottom);
+    check_faces(x, count, depths, &bottom, areas, steel, l)
 }

@@ -23,12 +23,20 @@ pub enum Verdict {
     NotReached,
 }
 
-// What Check finds of an accepted section and load: depth of the neutral axis in tenths of a millimetre, MRd in N·mm,
-// VRd,c in newtons, dm and As in mm and mm², and the verdicts in document 01's sequence and numbers. An enum holds no array:
-// here they stand by name, and in `Listed` as one array.
+// A face under N: the depth of the neutral axis in tenths of a millimetre from that face, and MRd in N·mm with it compressed.
+#[repr(C)]
+pub struct Face {
+    pub u: u64,
+    pub mrd: i64,
+}
+
+// What Check finds of an accepted section and load: depth of the neutral axis and MRd of the face that M compresses, the same of
+// the other face, VRd,c in newtons, dm and As in mm and mm², and the verdicts in document 01's sequence and numbers. An enum holds
+// no array: here they stand by name, and in `Listed` as one array.
 pub struct Report {
     pub u: u64,
     pub mrd: i64,
+    pub other: Face,
     pub vrd: u64,
     pub dm: u64,
     pub area: u64,
@@ -56,14 +64,15 @@ pub struct Listed {
     pub refusal: u64,
     pub u: u64,
     pub mrd: i64,
+    pub other: Face,
     pub vrd: u64,
     pub dm: u64,
     pub area: u64,
     pub verdicts: [u64; 5],
 }
 
-// Check a section under a load, for the face that M compresses.
-// Refusals: the section tests, the load tests, 11 and 12 N outside what the face compressed can carry.
+// Check a section under a load. Depth, resistances and verdicts are those of the face that M compresses; verdict one asks both faces.
+// Refusals: the section tests, the load tests, 11 N below the internal force at depth 1, 12 N above that at 10h of either face.
 pub fn check_section(s: Section, l: Load) -> Checked
     ensures { λ r. ⌜ r ≡ checkOf s l ⌝ }
     ensures refusal { λ r. ⌜ refusalNumber r ≡ firstFailing (checkTests (counted s) l) ⌝ }

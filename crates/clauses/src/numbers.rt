@@ -1,5 +1,6 @@
 // Document 01's numbers of an answer of Check.
 use super::Checked;
+use super::Face;
 use super::Listed;
 use super::Report;
 use super::Verdict;
@@ -26,6 +27,7 @@ pub fn refused_listed(k: u64) -> Listed
         refusal: k,
         u: 0,
         mrd: 0,
+        other: Face { u: 0, mrd: 0 },
         vrd: 0,
         dm: 0,
         area: 0,
@@ -36,6 +38,7 @@ pub fn refused_listed(k: u64) -> Listed
 fn report_listed(report: Report) -> Listed
     ensures { λ r. ⌜ r ≡ listed (Checked.Done report) ⌝ }
 {
+    let other = report.other;
     let verdicts = [
         report.moment,
         report.depth,
@@ -47,6 +50,7 @@ fn report_listed(report: Report) -> Listed
         refusal: 0,
         u: report.u,
         mrd: report.mrd,
+        other: other,
         vrd: report.vrd,
         dm: report.dm,
         area: report.area,

@@ -23,12 +23,12 @@ fn judge_tension(area: u64, passes: bool) -> Verdict
     }
 }
 
-// One, 6.1: the moment resistance.
-pub fn moment_verdict(m: i64, mrd: i64) -> Verdict
+// One, 6.1: M lies between the resistances of both faces. M is negated and not a resistance: its range is known here.
+pub fn moment_verdict(m: i64, top: i64, bottom: i64) -> Verdict
     requires { ⌜ Within m 1000000000000 ⌝ }
-    ensures { λ r. ⌜ r ≡ first m mrd ⌝ }
+    ensures { λ r. ⌜ r ≡ first m top bottom ⌝ }
 {
-    judge(arith::magnitude(m) as i64 <= mrd)
+    judge(arith::both(m <= top, 0 - m <= bottom))
 }
 
 // Two, 5.6.3(2): the depth of the neutral axis, u in tenths of a millimetre. No depth is above 30h.

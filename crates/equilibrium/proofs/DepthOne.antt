@@ -1,15 +1,15 @@
 -- At depth 1 every layer stands at −s/100, whatever its own depth: so refusal 11 is one comparison of numbers, without a walk over the
 -- layers, and never depends on the face. Assumes nothing.
 use Prim.Native.Nat.{ℕ, _+_, _*_, _≤_}
-use mathlib.Core.Bool.{true, false}
+use mathlib.Core.Bool.{Bool, true, false}
 use mathlib.Core.List.{List, [], _∷_}
 use mathlib.Core.Path.{_≡_, refl, sym, ap, _∙_}
 use native.Mathlib.Nat.{mul-le-mul-left}
 use native.Mathlib.Omega.{arith}
 use lib.IntN.{ℤ, pos}
-use lib.Signed.{leZ, ltZ, _≤ℤ_, _<ℤ_}
+use lib.Signed.{leZ, _≤ℤ_, _<ℤ_}
 use Rattle.arith.proofs.Ring.{E, #, _⊕_, _⊝_, _⊗_, le!, le?, lt!, lt?}
-use Rattle.arith.proofs.Test.{both-true, lt-true, lt-false, true-le, false-le}
+use Rattle.arith.proofs.Test.{both-true, le-true, le-false, true-le, false-le}
 use Rattle.section.specs.declared.Layer.{Layer}
 use Rattle.section.specs.declared.Design.{Design}
 use Rattle.section.specs.Section.{all, depthOk}
@@ -17,7 +17,7 @@ use Rattle.section.specs.Code.Usable.{Bounded, Usable}
 use Rattle.section.specs.Turned.{turned}
 use Rattle.equilibrium.specs.Refusals.{carries}
 use Rattle.section.specs.Code.Columns.{areaSum}
-use Rattle.equilibrium.specs.Code.Whole.{liftAt, liftSum, restAt, excessBy, excess}
+use Rattle.equilibrium.specs.Code.Whole.{liftAt, liftSum, restAt, carriesAtOne, excess}
 use Rattle.equilibrium.proofs.Whole.{lifted-low, carries-is}
 use Rattle.section.proofs.InColumns.{area-turned}
 use Rattle.section.proofs.OneLayer.{layer-low}
@@ -57,19 +57,15 @@ module _ {x : Design} {n : ℕ} (ls : List Layer) (N : ℤ) (w : Usable x n ls) 
   unfolding excess
   under-one h = carries-is x ls N (omega arith) ∙ true-le (excess x ls N 1) (pos 0) (le! here (# (pos 0)) (omega (arith, le? (# concrete) (# rest) h, no-lift)))
 
-  -- the test of the two numbers, as they are read
-  module _ {r c : ℤ} (e : r ≡ rest) (f : c ≡ concrete) where
-    pub one-fails : ltZ r c ≡ true → carries x ls N 1 ≡ false
-    one-fails h = over-one (rw (e, f) at (lt-true r c h))
-
-    pub one-passes : ltZ r c ≡ false → carries x ls N 1 ≡ true
-    one-passes h = under-one (rw (e, f) at (lt-false r c h))
+  -- 11 is that comparison
+  pub one-is : carries x ls N 1 ≡ carriesAtOne x (areaSum ls) N
+  one-is = go (leZ concrete rest) refl
+    where
+      go : (t : Bool) → leZ concrete rest ≡ t → carries x ls N 1 ≡ t
+      go true h = under-one (le-true concrete rest h)
+      go false h = over-one (le-false concrete rest h)
 
 -- the same for both faces
 pub one-turned : {x : Design} {n : ℕ} (ls : List Layer) (N : ℤ) → Usable x n ls → carries x (turned (x .h) ls) N 1 ≡ carries x ls N 1
-unfolding excess
 one-turned {x} ls N w =
-    let there = turned (x .h) ls in
-    let same : excess x there N 1 ≡ excess x ls N 1 = λ i. excessBy x (area-turned (x .h) ls i) N
-    ((no-lift there N (usable-turned ls w) ∙ sym (no-lift ls N w)) i) 1 in
-    carries-is x there N (omega arith) ∙ ap (λ (z : ℤ). leZ z (pos 0)) same ∙ sym (carries-is x ls N (omega arith))
+    one-is (turned (x .h) ls) N (usable-turned ls w) ∙ ap (λ (a : ℕ). carriesAtOne x a N) (area-turned (x .h) ls) ∙ sym (one-is ls N w)

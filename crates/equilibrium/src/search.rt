@@ -13,7 +13,7 @@ ghost use Rattle.equilibrium.specs.Refusals.{carries};
 ghost use Rattle.equilibrium.specs.Depth.{depthFor};
 ghost use Rattle.equilibrium.specs.Accuracy.{PromisedDepth};
 ghost use Rattle.section.specs.Code.Columns.{layersIn};
-ghost use Rattle.equilibrium.specs.Code.Whole.{liftSum, restAt, excessBy, excess, ExcessBounds, Trial};
+ghost use Rattle.equilibrium.specs.Code.Whole.{liftSum, restAt, carriesAtOne, excessBy, excess, ExcessBounds, Trial};
 
 // The lift of all layers at a depth and at the next tenth.
 struct Lifts {
@@ -181,8 +181,41 @@ fn by_pairs(
     lo
 }
 
-// The depth of an accepted section under N, with the face compressed from which its depths are measured; or 11 or 12. At depth 1 all
-// steel is at −s/100, so 11 asks no walk; 12 is asked only where the search ends at 10h.
+// Is N at least the internal force at depth 1? There all steel is at −s/100, so no layer is asked, and both faces answer alike.
+pub fn carries_at_one(x: Design, steel: u64, n: i64) -> bool
+    requires { ⌜ Bounded x × ((steel ≤ 320000) × Within n 500000000) ⌝ }
+    ensures { λ r. ⌜ r ≡ carriesAtOne x steel n ⌝ }
+{
+    concrete_of(x) as i64 <= rest_of(x, steel, n)
+}
+
+// The depth of a face whose depth 1 carries; or 12, which is asked only where the search ends at 10h.
+pub fn depth_above_one(
+    x: Design,
+    count: usize,
+    depths: &[u32; 16],
+    areas: &[u32; 16],
+    steel: u64,
+    n: i64,
+) -> Depth
+    requires { ⌜ Trial x count (layersIn count (now depths) (now areas)) steel n ⌝ }
+    requires { ⌜ carriesAtOne x steel n ≡ true ⌝ }
+    ensures { λ r. ⌜ r ≡ depthFor x (layersIn count (now (depths .entry)) (now (areas .entry))) n ⌝ }
+    ensures promised { λ r. ⌜ PromisedDepth x (layersIn count (now (depths .entry)) (now (areas .entry))) n r ⌝ }
+{
+    let top = 10 * x.h;
+    let u = by_pairs(x, count, depths, areas, steel, n);
+    if u < top {
+        return Depth::At(u);
+    }
+    let p = excesses(x, count, depths, areas, steel, n, top - 1);
+    if p.next < 0 {
+        return Depth::Refused(12);
+    }
+    Depth::At(u)
+}
+
+// The depth of an accepted section under N, with the face compressed from which its depths are measured; or 11 or 12.
 pub fn depth_for(
     x: Design,
     count: usize,
@@ -195,17 +228,8 @@ pub fn depth_for(
     ensures { λ r. ⌜ r ≡ depthFor x (layersIn count (now (depths .entry)) (now (areas .entry))) n ⌝ }
     ensures promised { λ r. ⌜ PromisedDepth x (layersIn count (now (depths .entry)) (now (areas .entry))) n r ⌝ }
 {
-    if rest_of(x, steel, n) < concrete_of(x) as i64 {
+    if !carries_at_one(x, steel, n) {
         return Depth::Refused(11);
     }
-    let top = 10 * x.h;
-    let u = by_pairs(x, count, depths, areas, steel, n);
-    if u < top {
-        return Depth::At(u);
-    }
-    let p = excesses(x, count, depths, areas, steel, n, top - 1);
-    if p.next < 0 {
-        return Depth::Refused(12);
-    }
-    Depth::At(u)
+    depth_above_one(x, count, depths, areas, steel, n)
 }

@@ -7,10 +7,12 @@ use native.Mathlib.Nat.{le-trans}
 use native.Mathlib.Omega.{arith}
 use lib.Dec.{T, leb, ltb, ltb→lt, lit<, lit≤}
 use lib.IntN.{ℤ, pos, negsuc, natAbs, _+ℤ_}
+use lib.Signed.{leZ}
 use Rattle.arith.specs.Chain.{firstFailing, OneOf}
 use Rattle.arith.proofs.Bound.{abs-add}
 use Rattle.arith.proofs.Chain.{passes}
 use Rattle.arith.specs.Every.{every}
+use Rattle.arith.specs.Integer.{Within}
 use Rattle.section.specs.declared.Layer.{Layer}
 use Rattle.section.specs.declared.Section.{Section}
 use Rattle.section.specs.declared.Load.{Load}
@@ -21,27 +23,31 @@ use Rattle.equilibrium.specs.declared.Depth.{Depth}
 use Rattle.equilibrium.specs.declared.Depth.the-variants as depth
 use Rattle.section.specs.Section.{layersOf, counted}
 use Rattle.section.specs.Refusals.{accepted, loadTests, sectionRefusals, loadRefusals}
-use Rattle.equilibrium.specs.Refusals.{faceRefusals}
+use Rattle.equilibrium.specs.Refusals.{carries, faceRefusals}
 use Rattle.section.specs.Code.Usable.{Usable, LoadOk}
+use Rattle.section.specs.Turned.{turned}
 use Rattle.equilibrium.specs.Force.{momentResistance}
 use Rattle.equilibrium.specs.Code.Whole.{DepthOk}
 use Rattle.equilibrium.specs.Depth.{depthFor}
 use Rattle.equilibrium.specs.Accuracy.{PromisedDepth}
 use Rattle.section.proofs.Usable.{section-promise, usable-by, load-one-of, load-ok}
+use Rattle.section.proofs.Turned.{usable-turned}
 use Rattle.equilibrium.proofs.Sizes.{depth-most, resistance-in}
+use Rattle.equilibrium.proofs.DepthOne.{one-turned}
 use Rattle.equilibrium.proofs.Found.{depth-promise}
 use Rattle.shear.specs.Shear.{Sheared, concreteShare, axialShare, orZero, VRdc}
 use Rattle.shear.specs.Code.Ranges.{StressBounds, ShearBounds}
 use Rattle.shear.specs.Shear as shear
 use Rattle.shear.proofs.Roots.{concrete-high, c-in, axial-in}
+use Rattle.clauses.specs.declared.Face.{Face}
 use Rattle.clauses.specs.declared.Verdict.{Verdict}
 use Rattle.clauses.specs.declared.Verdict.the-variants.{Pass, Fail, NotReached}
 use Rattle.clauses.specs.declared.Checked.the-variants.{Done}
 use Rattle.clauses.specs.Verdicts.{numberOf, first, second, third, fourth, fifth}
 use Rattle.clauses.specs.Tension.{areaOf, As, dm}
-use Rattle.clauses.specs.Check.{refusedListed, listed, reportAt, checkFace, checkOf}
+use Rattle.clauses.specs.Check.{refusedListed, listed, topFace, bottomFace, reportOf, reportAt, checkFaces, checkOf}
 use Rattle.clauses.proofs.Layers.{counts, As-high, dm-high}
-use Rattle.clauses.proofs.Checking.{usable-facing, check-refused, load-refused, load-passed, face-refused, face-at}
+use Rattle.clauses.proofs.Checking.{check-refused, load-refused, load-passed, top-refused, bottom-refused, both-at}
 use Rattle.listing.proofs.Longest.{Fitting}
 
 -- ---- refusals have at most three digits
@@ -96,48 +102,69 @@ digit-of Pass = lit< tt
 digit-of Fail = lit< tt
 digit-of NotReached = lit< tt
 
-module _ {x : Design} {count : ℕ} (ls : List Layer) (l : Load) (w : Usable x count ls) (ok : LoadOk l) where
-  report-fits : (u : ℕ) → DepthOk x u → Fitting (listed (Done (reportAt x ls l u)))
-  unfolding reportAt
-  report-fits u d =
-      let n = counts ls w in
-      let b = w .bounded in
-      let area = As u ls in
-      let mean = dm u ls in
-      let stress : StressBounds (x .b) (x .m .fck) (As u ls) (dm u ls) =
-      record { b-high = b .b-high; fck-high = b .materials .fck-high; As-high = As-high ls n u; dm-high = dm-high ls n u } in
-      record {
-        refusal = omega arith;
-        u = omega (arith, depth-most b d);
-        mrd = omega (arith, resistance-in w d .within);
-        vrd = shear-most _ (record { stress = stress; h-low = b .h-low; h-high = b .h-high; g-high = b .materials .g-high; N-in = ok .n-in });
-        dm = omega (arith, dm-high ls n u);
-        area = omega (arith, As-high ls n u);
-        count = refl;
-        verdicts = (
-          digit-of (first (l .m) (momentResistance x ls u)),
+-- what is reported of a face, whose layers are ls
+report-fits : {x : Design} {count : ℕ} (ls : List Layer) (l : Load) (face other : Face) (v : Verdict) → Usable x count ls → LoadOk l
+    → DepthOk x (face .u) → Within (face .mrd) 7000000000000000000 → Fitting (listed (Done (reportOf x ls l face other v)))
+unfolding reportOf
+report-fits {x} ls l face other v w ok d m =
+    let u = face .u in
+    let n = counts ls w in
+    let b = w .bounded in
+    let area = As u ls in
+    let mean = dm u ls in
+    let stress : StressBounds (x .b) (x .m .fck) (As u ls) (dm u ls) =
+    record { b-high = b .b-high; fck-high = b .materials .fck-high; As-high = As-high ls n u; dm-high = dm-high ls n u } in
+    record {
+      refusal = omega arith;
+      u = omega (arith, depth-most b d);
+      mrd = omega (arith, m .within);
+      vrd = shear-most _ (record { stress = stress; h-low = b .h-low; h-high = b .h-high; g-high = b .materials .g-high; N-in = ok .n-in });
+      dm = omega (arith, dm-high ls n u);
+      area = omega (arith, As-high ls n u);
+      count = refl;
+      verdicts = (
+        digit-of v,
+        (
+          digit-of (second (x .m .fck) u area mean),
           (
-            digit-of (second (x .m .fck) u area mean),
-            (
-              digit-of (third (l .v) (VRdc record { b = x .b; h = x .h; fck = x .m .fck; g = x .m .g; N = l .n; As = area; dm = mean }) area),
-              (digit-of (fourth (x .m .t) (x .m .fyk) (x .b) area mean), (digit-of (fifth (areaOf ls) (x .b) (x .h)), tt)),
-            ),
+            digit-of (third (l .v) (VRdc record { b = x .b; h = x .h; fck = x .m .fck; g = x .m .g; N = l .n; As = area; dm = mean }) area),
+            (digit-of (fourth (x .m .t) (x .m .fyk) (x .b) area mean), (digit-of (fifth (areaOf ls) (x .b) (x .h)), tt)),
           ),
-        );
-      }
+        ),
+      );
+    }
 
-  face-fits : Fitting (listed (checkFace x ls l))
-  face-fits = go (depthFor x ls (l .n)) refl (depth-promise (l .n) w)
+module _ {x : Design} {count : ℕ} (ls : List Layer) (l : Load) (w : Usable x count ls) (ok : LoadOk l) where
+  abbrev below : List Layer
+  below = turned (x .h) ls
+
+  -- whichever face M compresses
+  either-fits : (t b : ℕ) → DepthOk x t → DepthOk x b → Fitting (listed (Done (reportAt x l ls below t b)))
+  unfolding reportAt
+  either-fits t b d e = go (leZ (pos 0) (l .m))
     where
-      go : (d : Depth) → depthFor x ls (l .n) ≡ d → PromisedDepth x ls (l .n) d → Fitting (listed (checkFace x ls l))
-      go (depth.Refused k) e p = rw (← face-refused x ls l e) (refused-fits k (small faceRefusals tt p))
-      go (depth.At u) e p = rw (← face-at x ls l e) (report-fits u (p .depth))
+      go : (z : Bool) → Fitting (listed (Done (reportOf x (cond z ls below) l (cond z (topFace x l ls below t b) (bottomFace x l ls below t b))
+          (cond z (bottomFace x l ls below t b) (topFace x l ls below t b)) (first (l .m) (momentResistance x ls t) (momentResistance x below b)))))
+      go true = report-fits ls l _ _ _ w ok d (resistance-in w d)
+      go false = report-fits below l _ _ _ (usable-turned ls w) ok e (resistance-in (usable-turned ls w) e)
+
+  faces-fit : Fitting (listed (checkFaces x ls below l))
+  faces-fit = go (depthFor x ls (l .n)) (depthFor x below (l .n)) refl refl (depth-promise (l .n) w) (depth-promise (l .n) (usable-turned ls w))
+    where
+      same : carries x below (l .n) 1 ≡ carries x ls (l .n) 1
+      same = one-turned ls (l .n) w
+
+      go : (d e : Depth) → depthFor x ls (l .n) ≡ d → depthFor x below (l .n) ≡ e → PromisedDepth x ls (l .n) d → PromisedDepth x below (l .n) e
+          → Fitting (listed (checkFaces x ls below l))
+      go (depth.Refused k) e i j p q = rw (← top-refused x ls below l same i) (refused-fits k (small faceRefusals tt p))
+      go (depth.At t) (depth.Refused k) i j p q = rw (← bottom-refused x ls below l same i j) (refused-fits k (small faceRefusals tt q))
+      go (depth.At t) (depth.At b) i j p q = rw (← both-at x ls below l same i j) (either-fits t b (p .depth) (q .depth))
 
 pub check-fits : (s : Section) (l : Load) → Fitting (listed (checkOf s l))
 check-fits s l = go (accepted (counted s)) refl
   where
     under : {x : Design} (k : ℕ) → firstFailing (loadTests l) ≡ k → accepted (counted s) ≡ section.Ready x → Fitting (listed (checkOf s l))
-    under zero none e = rw (← load-passed s l e none) (face-fits _ l (usable-facing (l .m) (layersOf s) (usable-by s e)) (load-ok l none))
+    under zero none e = rw (← load-passed s l e none) (faces-fit (layersOf s) l (usable-by s e) (load-ok l none))
     under (suc k) some e = rw (← load-refused s l (suc k) e (sym some) (λ z. omega arith)) (refused-fits (suc k) (rw (← some) (load-small l)))
 
     go : (a : Accepted) → accepted (counted s) ≡ a → Fitting (listed (checkOf s l))

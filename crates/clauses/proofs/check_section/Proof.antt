@@ -10,8 +10,8 @@ use Rattle.section.specs.Code.Usable.{Usable}
 use Rattle.section.specs.Code.Columns.{layersIn}
 use Rattle.section.proofs.InColumns.{in-columns, counted-in}
 use Rattle.section.proofs.Usable.{usable-by, load-ok}
-use Rattle.clauses.specs.Refusals.{facing}
-use Rattle.clauses.specs.Check.{checkFace}
+use Rattle.section.specs.Turned.{turned}
+use Rattle.clauses.specs.Check.{checkFaces}
 use Rattle.clauses.proofs.Checking.{check-refused, load-refused, load-passed, check-clauses}
 use borrow.Author.Needs.{needs}
 use Rattle.clauses.proofs.check_section.Statement.{statement}
@@ -91,7 +91,7 @@ returns-2 c =
     let none = sym (t .before .load-refusal .ensures) ∙ t .if1 .taken in
     check-clauses (s a) l
     (c .check-accepted .ensures
-    ∙ ap (λ ls. checkFace (x .x .given .0 .0) (facing (l .m) (x .x .given .0 .0 .h) ls) l) (layers-are x)
+    ∙ ap (λ ls. checkFaces (x .x .given .0 .0) ls (turned (x .x .given .0 .0 .h) ls) l) (layers-are x)
     ∙ load-passed (s a) l (ready x) none)
 
 returns-3 : tie.Need-returns-3

@@ -1,9 +1,11 @@
 -- At a whole depth u stress, force and moment are whole numbers over a natural: what the code computes. No sentence of document 01 stands
 -- here. Assumes nothing.
 use Prim.Native.Nat.{ℕ, _+_, _-_, _*_, _/_, _≤_, min}
+use mathlib.Core.Bool.{Bool}
 use mathlib.Core.List.{List, [], _∷_}
 use mathlib.Core.Path.{_≡_}
 use lib.IntN.{ℤ, pos, _+ℤ_, _-ℤ_, _*ℤ_}
+use lib.Signed.{leZ}
 use Rattle.arith.specs.Integer.{Within}
 use Rattle.section.specs.declared.Layer.{Layer}
 use Rattle.section.specs.declared.Design.{Design}
@@ -39,6 +41,10 @@ liftSum x (l ∷ ls) u = l .area * liftAt x u (l .depth) + liftSum x ls u
 -- 80,000·N and what so much steel carries in tension: what is left for the concrete and the lift
 abbrev pub restAt : Design → ℕ → ℤ → ℤ
 restAt x steel N = pos 80000 *ℤ N +ℤ pos (800 * x .m .s * steel)
+
+-- is N at least the internal force at depth 1, where so much steel stands at −s/100 whatever its depth?
+abbrev pub carriesAtOne : Design → ℕ → ℤ → Bool
+carriesAtOne x steel N = leZ (pos (x .m .f * x .m .l * x .b)) (restAt x steel N)
 
 -- 80,000·u times what the internal force exceeds N by, of the steel's area and lift
 abbrev pub excessBy : Design → ℕ → ℤ → ℕ → ℕ → ℤ

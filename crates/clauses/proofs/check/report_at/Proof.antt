@@ -1,135 +1,97 @@
--- `clauses::check::report_at` meets its contract: each number and verdict from its callee. Assumes nothing.
-use Prim.Native.Nat.{_≤_}
+-- `clauses::check::report_at` meets its contract: each face at its depth, by the sign of M. Assumes nothing.
 use mathlib.Core.List.{List}
-use mathlib.Core.Path.{_∙_}
-use native.Mathlib.Omega.{arith}
+use mathlib.Core.Path.{_≡_, sym, ap, _∙_}
+use lib.IntN.{pos}
+use lib.Signed.{leZ}
+use mir.Syntax.{w64}
+use mir.Val.{toZ, ofZ}
 use borrow.Author.Needs.{needs}
 use Rattle.arith.proofs.Machine.{field, result}
 use Rattle.section.specs.declared.Layer.{Layer}
 use Rattle.section.specs.Code.Columns.{layersIn}
-use Rattle.equilibrium.proofs.Sizes.{depth-most, area-high}
-use Rattle.clauses.specs.Check.{reportAt}
-use Rattle.clauses.proofs.Layers.{counts, area-is, As-high, dm-high}
+use Rattle.equilibrium.specs.Force.{momentResistance}
+use Rattle.clauses.specs.Verdicts.{first}
+use Rattle.clauses.specs.Check.{reportOf, reportAt}
 use Rattle.clauses.proofs.check.report_at.Statement.{statement}
 use Rattle.clauses.proofs.check.report_at.Tie as tie
 
--- what is known of the reinforcement
-module _ (c : tie.After-tension-reinforcement) where
+module _ (s : tie.Start) where
+  abbrev tops : List Layer
+  tops = layersIn (s .args .count) (s .args .top .now) (s .args .areas .now)
+
+  abbrev bottoms : List Layer
+  bottoms = layersIn (s .args .count) (s .args .bottom .now) (s .args .areas .now)
+
+-- what is computed of both faces
+module _ (c : tie.After-moment-verdict) where
+  abbrev low : tie.After-moment-resistance2
+  low = c .before .before
+
+  abbrev high : tie.After-moment-resistance
+  high = low .before
+
   abbrev start : tie.Start
-  start = c .before .before
+  start = high .before
 
-  abbrev ls : List Layer
-  ls = layersIn (start .args .count) (start .args .depths .now) (start .args .areas .now)
+  top-is : toZ w64 (ofZ w64 (high .moment-resistance .result)) ≡ momentResistance (start .args .x) (tops start) (start .args .t)
+  top-is = result (high .moment-resistance .ok) (high .moment-resistance .ensures)
 
-  area-most : c .tension-reinforcement .result .area ≤ 320000
-  area-most = rw (c .tension-reinforcement .ensures .0) (As-high ls (counts ls (start .pre .0)) (start .args .u))
+  bottom-is : toZ w64 (ofZ w64 (low .moment-resistance2 .result)) ≡ momentResistance (start .args .x) (bottoms start) (start .args .b)
+  bottom-is = result (low .moment-resistance2 .ok) (low .moment-resistance2 .ensures)
 
-  depth-high : c .tension-reinforcement .result .depth ≤ 1999
-  depth-high = rw (c .tension-reinforcement .ensures .1) (dm-high ls (counts ls (start .pre .0)) (start .args .u))
+  moment-is : c .moment-verdict .result
+      ≡ first (start .args .l .m) (momentResistance (start .args .x) (tops start) (start .args .t)) (momentResistance (start .args .x) (bottoms start) (start .args .b))
+  moment-is = c .moment-verdict .ensures ∙ (λ i. first (field (start .args .l .m) (c .before .struct-told .given .1 .0 .1) i) (top-is i) (bottom-is i))
 
 moment-resistance-requires : tie.Need-moment-resistance-requires
-moment-resistance-requires c κs = search needs
+moment-resistance-requires c κs = (c .pre .0 .of-top .usable, c .pre .1 .0)
 
-tension-reinforcement-requires : tie.Need-tension-reinforcement-requires
-tension-reinforcement-requires c κs = counts _ (c .before .pre .0)
-
-shear-resistance-requires : tie.Need-shear-resistance-requires
-shear-resistance-requires c κs =
-    let a = c .before in
-    let b = start a .pre .0 .bounded in
-    record {
-      stress = record { b-high = b .b-high; fck-high = b .materials .fck-high; As-high = area-most a; dm-high = depth-high a };
-      h-low = b .h-low;
-      h-high = b .h-high;
-      g-high = b .materials .g-high;
-      N-in = rw (field (start a .args .l .n) (c .struct-told .given .0 .1)) (start a .pre .1 .1 .0 .n-in);
-    }
+moment-resistance-requires-2 : tie.Need-moment-resistance-requires-2
+moment-resistance-requires-2 c κs = let s = c .before in (s .pre .0 .of-bottom .usable, s .pre .1 .1)
 
 moment-verdict-requires : tie.Need-moment-verdict-requires
-moment-verdict-requires c κs = search needs
+moment-verdict-requires c κs =
+    let s = c .before .before .before in
+    rw (field (s .args .l .m) (c .struct-told .given .1 .0 .1)) (s .pre .0 .loaded .m-in)
 
-verdict-number-requires : tie.Need-verdict-number-requires
-verdict-number-requires c κs = search needs
+report-of-requires : tie.Need-report-of-requires
+report-of-requires c κs =
+    let s = c .before .before .before .before .before .before .before in
+    (s .pre .0 .of-top .usable, (s .pre .0 .of-top .area, (s .pre .0 .loaded, s .pre .1 .0)))
 
-depth-verdict-requires : tie.Need-depth-verdict-requires
-depth-verdict-requires c κs =
-    let a = c .before .before .before .before .before in
-    (omega (arith, depth-most (start a .pre .0 .bounded) (start a .pre .1 .1 .1)), depth-high a)
-
-verdict-number-requires-2 : tie.Need-verdict-number-requires-2
-verdict-number-requires-2 c κs = search needs
-
-shear-verdict-requires : tie.Need-shear-verdict-requires
-shear-verdict-requires c κs = search needs
-
-verdict-number-requires-3 : tie.Need-verdict-number-requires-3
-verdict-number-requires-3 c κs = search needs
-
-least-verdict-requires : tie.Need-least-verdict-requires
-least-verdict-requires c κs =
-    let a = c .before .before .before .before .before .before .before .before .before .before in
-    let b = start a .pre .0 .bounded in
-    record { T-high = b .materials .T-high; fyk-high = b .materials .fyk-high; b-high = b .b-high; As-high = area-most a; dm-high = depth-high a }
-
-verdict-number-requires-4 : tie.Need-verdict-number-requires-4
-verdict-number-requires-4 c κs = search needs
-
-most-verdict-requires : tie.Need-most-verdict-requires
-most-verdict-requires c κs =
-    let a = c .before .before .before .before .before .before .before .before .before .before .before .before in
-    let b = start a .pre .0 .bounded in
-    (omega (arith, start a .pre .1 .0, area-high (start a .pre .0)), (b .b-high, b .h-high))
-
-verdict-number-requires-5 : tie.Need-verdict-number-requires-5
-verdict-number-requires-5 c κs = search needs
+report-of-requires-2 : tie.Need-report-of-requires-2
+report-of-requires-2 c κs =
+    let s = c .before .before .before .before .before .before .before in
+    (s .pre .0 .of-bottom .usable, (s .pre .0 .of-bottom .area, (s .pre .0 .loaded, s .pre .1 .1)))
 
 returns : tie.Need-returns
 unfolding reportAt
 returns c =
-    let most = c .before in
-    let least = most .before .before in
-    let shear = least .before .before in
-    let depth = shear .before .before .before in
-    let moment = depth .before .before in
-    let vrd = moment .before .before in
-    let a = vrd .before .before in
-    let l = start a .args .l in
-    simp (
-      result (a .before .moment-resistance .ok) (a .before .moment-resistance .ensures),
-      a .tension-reinforcement .ensures .0,
-      a .tension-reinforcement .ensures .1,
-      start a .pre .1 .0 ∙ area-is (ls a),
-      vrd .shear-resistance .ensures,
-      moment .moment-verdict .ensures,
-      depth .before .verdict-number .ensures,
-      depth .depth-verdict .ensures,
-      shear .before .before .verdict-number2 .ensures,
-      shear .shear-verdict .ensures,
-      least .before .verdict-number3 .ensures,
-      least .least-verdict .ensures,
-      most .before .verdict-number4 .ensures,
-      most .most-verdict .ensures,
-      c .verdict-number5 .ensures,
-      field (l .n) (vrd .before .struct-told .given .0 .1),
-      field (l .m) (moment .before .struct-told2 .given .1 .0 .1),
-      field (l .v) (shear .before .struct-told3 .given .1 .1 .0 .1),
-    )
+    let t = c .before in
+    let v = t .before .before .before in
+    let a = start v .args in
+    c .report-of .ensures
+    ∙ (λ i. reportOf (a .x) (tops (start v)) (a .l) (record { u = a .t; mrd = top-is v i }) (record { u = a .b; mrd = bottom-is v i }) (moment-is v i))
+    ∙ simp (sym (ap (leZ (pos 0)) (field (a .l .m) (t .before .struct-told2 .given .1 .0 .1))) ∙ t .if1 .taken)
+
+returns-2 : tie.Need-returns-2
+unfolding reportAt
+returns-2 c =
+    let t = c .before in
+    let v = t .before .before .before in
+    let a = start v .args in
+    c .report-of2 .ensures
+    ∙ (λ i. reportOf (a .x) (bottoms (start v)) (a .l) (record { u = a .b; mrd = bottom-is v i }) (record { u = a .t; mrd = top-is v i }) (moment-is v i))
+    ∙ simp (sym (ap (leZ (pos 0)) (field (a .l .m) (t .before .struct-told2 .given .1 .0 .1))) ∙ t .if1 .left)
 
 pub report-at-spec : {M : Type 1} → statement M
 report-at-spec =
     tie.close
     (tie.spec
     moment-resistance-requires
-    tension-reinforcement-requires
-    shear-resistance-requires
+    moment-resistance-requires-2
     moment-verdict-requires
-    verdict-number-requires
-    depth-verdict-requires
-    verdict-number-requires-2
-    shear-verdict-requires
-    verdict-number-requires-3
-    least-verdict-requires
-    verdict-number-requires-4
-    most-verdict-requires
-    verdict-number-requires-5
-    returns)
+    report-of-requires
+    report-of-requires-2
+    returns
+    returns-2)

@@ -1,40 +1,42 @@
--- `clauses::verdicts::moment_verdict` meets its contract. Assumes nothing.
+-- `clauses::verdicts::moment_verdict` meets its contract: −MRd ≤ M where −M ≤ MRd. Assumes nothing.
+use mathlib.Core.Bool.{_&&_}
 use mathlib.Core.Path.{_≡_, ap, _∙_}
-use lib.IntN.{pos, natAbs}
+use native.Mathlib.Omega.{arith}
+use lib.IntN.{ℤ, pos, negℤ, _-ℤ_}
 use lib.Signed.{leZ}
 use mir.Facts.{toZ-ofZ}
-use mir.Syntax.{w64}
-use mir.Val.{toZ, ofZ}
-use Rattle.arith.proofs.Machine.{M, nat, fits, value}
+use Rattle.arith.proofs.Machine.{M, num, var, _⊟_, fits, value}
+use Rattle.arith.proofs.Ring.{#, _⊝_, ⊖, le!, le?}
+use Rattle.arith.proofs.Test.{same-test, le-true, true-le}
 use Rattle.clauses.specs.Verdicts.{judged}
 use borrow.Author.Needs.{needs}
 use Rattle.clauses.proofs.verdicts.moment_verdict.Statement.{statement}
 use Rattle.clauses.proofs.verdicts.moment_verdict.Tie as tie
 
-module _ (c : tie.After-magnitude) where
-  magnitude-is : c .magnitude .result ≡ natAbs (c .before .args .m)
-  magnitude-is = c .magnitude .ensures ∙ ap natAbs (toZ-ofZ (c .before .fits .m))
+-- −M, as the code has it
+abbrev minus : tie.Start → M
+minus s = num (pos 0) ⊟ var (s .fits .m) (s .pre)
 
-  -- |M|, as the code has it
-  abbrev moment : M
-  moment = nat (c .magnitude .result) {B = 1000000000000} (rw magnitude-is (c .before .pre .within)) tt
+other-side : (m r : ℤ) → leZ (pos 0 -ℤ m) r ≡ leZ (negℤ r) m
+other-side m r = same-test (leZ (pos 0 -ℤ m) r) (leZ (negℤ r) m)
+    (λ e. true-le (negℤ r) m (le! (⊖ (# r)) (# m) (omega (arith, le? (# (pos 0) ⊝ # m) (# r) (le-true (pos 0 -ℤ m) r e)))))
+    (λ e. true-le (pos 0 -ℤ m) r (le! (# (pos 0) ⊝ # m) (# r) (omega (arith, le? (⊖ (# r)) (# m) (le-true (negℤ r) m e)))))
 
-magnitude-requires : tie.Need-magnitude-requires
-magnitude-requires c κs = search needs
+sub-both : tie.Need-sub-both
+sub-both c = fits (minus c) tt
 
-cast-judge : tie.Need-cast-judge
-cast-judge c = fits (moment c) tt
+both-requires : tie.Need-both-requires
+both-requires c κs = search needs
 
 judge-requires : tie.Need-judge-requires
 judge-requires c κs = search needs
 
 returns : tie.Need-returns
 returns c =
-    let a = c .before in
-    let e : c .judge .result ≡ judged (leZ (toZ w64 (a .magnitude .result)) (toZ w64 (ofZ w64 (a .before .args .mrd)))) = c .judge .ensures in
-    e
-    ∙ (λ i. judged (leZ (value (moment a) tt i) (toZ-ofZ (a .before .fits .mrd) i)))
-    ∙ ap (λ k. judged (leZ (pos k) (a .before .args .mrd))) (magnitude-is a)
+    let s = c .before .before in
+    c .judge .ensures ∙ ap judged (c .before .both .ensures
+    ∙ (λ i. leZ (toZ-ofZ (s .fits .m) i) (toZ-ofZ (s .fits .top) i) && leZ (value (minus s) tt i) (toZ-ofZ (s .fits .bottom) i))
+    ∙ ap (λ t. leZ (s .args .m) (s .args .top) && t) (other-side (s .args .m) (s .args .bottom)))
 
 pub moment-verdict-spec : {M : Type 1} → statement M
-moment-verdict-spec = tie.close (tie.spec magnitude-requires cast-judge judge-requires returns)
+moment-verdict-spec = tie.close (tie.spec sub-both both-requires judge-requires returns)

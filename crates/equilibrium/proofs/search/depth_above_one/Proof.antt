@@ -1,0 +1,97 @@
+-- `equilibrium::search::depth_above_one` meets its contract: the depth by the search, and 12 where that ends at 10h. Assumes nothing.
+use Prim.Native.Nat.{ℕ, _+_, _-_, _*_, _≤_}
+use mathlib.Core.Bool.{true}
+use mathlib.Core.List.{List}
+use mathlib.Core.Path.{_≡_, sym, ap, _∙_}
+use native.Mathlib.Omega.{arith}
+use borrow.Author.Needs.{needs}
+use lib.IntN.{ℤ}
+use mir.Syntax.{w64}
+use mir.Val.{toZ, ofZ}
+use mir.Facts.{toZ-ofZ}
+use Rattle.arith.specs.Greatest.{greatest}
+use Rattle.arith.proofs.Machine.{field}
+use Rattle.section.specs.declared.Layer.{Layer}
+use Rattle.section.specs.Code.Columns.{layersIn}
+use Rattle.equilibrium.specs.Refusals.{carries}
+use Rattle.equilibrium.specs.Depth.{depthFor}
+use Rattle.equilibrium.specs.Code.Whole.{carriesAtOne, excess}
+use Rattle.equilibrium.proofs.Found.{depth-clauses}
+use Rattle.equilibrium.proofs.DepthOne.{one-is}
+use Rattle.equilibrium.proofs.Trials.{top-short, top-reached, below-top}
+use Rattle.equilibrium.proofs.search.depth_above_one.Statement.{statement}
+use Rattle.equilibrium.proofs.search.depth_above_one.Tie as tie
+
+module _ (s : tie.Start) where
+  abbrev ls : List Layer
+  ls = layersIn (s .args .count) (s .args .depths .now) (s .args .areas .now)
+
+  high-enough : 1 ≤ s .args .x .h
+  high-enough = omega (arith, s .pre .0 .usable .bounded .h-low)
+
+  -- 1 carries
+  carried : carries (s .args .x) ls (s .args .n) 1 ≡ true
+  carried = one-is ls (s .args .n) (s .pre .0 .usable) ∙ ap (λ (a : ℕ). carriesAtOne (s .args .x) a (s .args .n)) (sym (s .pre .0 .area)) ∙ s .pre .1
+
+found : (c : tie.After-by-pairs)
+    → (let s = c .before .before in c .by-pairs .result ≡ greatest (carries (s .args .x) (ls s) (s .args .n)) (10 * s .args .x .h))
+found c = let s = c .before .before in c .by-pairs .ensures
+    ∙ ap (λ (z : ℤ). greatest (carries (s .args .x) (ls s) z) (10 * s .args .x .h)) (toZ-ofZ (s .fits .n))
+
+top-read : (c : tie.After-struct-told)
+    → (let s = c .before .before .before .before .before .before in
+    toZ w64 (ofZ w64 (c .before .before .excesses .result .next)) ≡ excess (s .args .x) (ls s) (s .args .n) (10 * s .args .x .h))
+top-read c =
+    let s = c .before .before .before .before .before .before in
+    let e : 10 * s .args .x .h - 1 + 1 ≡ 10 * s .args .x .h = omega (arith, s .pre .0 .usable .bounded .h-low) in
+    field _ (c .struct-told .given .1 .0 .1) ∙ c .before .before .excesses .ensures .1 ∙ (λ i. excess (s .args .x) (ls s) (toZ-ofZ (s .fits .n) i) (e i))
+
+mul-top : tie.Need-mul-top
+mul-top c = search needs
+
+by-pairs-requires : tie.Need-by-pairs-requires
+by-pairs-requires c κs = let s = c .before in (rw (toZ-ofZ (s .fits .n)) (s .pre .0), rw (toZ-ofZ (s .fits .n)) (carried s))
+
+returns : tie.Need-returns
+unfolding depthFor
+returns c =
+    let b = c .before in
+    let s = b .before .before in
+    depth-clauses (s .args .n) (s .pre .0 .usable)
+    (rw (carried s, below-top (s .args .x) (ls s) (s .args .n) (high-enough s) (omega (arith, found b, c .if1 .taken)), found b))
+
+sub-excesses : tie.Need-sub-excesses
+sub-excesses c = search needs
+
+excesses-requires : tie.Need-excesses-requires
+excesses-requires c κs =
+    let s = c .before .before .before in
+    (rw (toZ-ofZ (s .fits .n)) (s .pre .0), omega (arith, s .pre .0 .usable .bounded .h-high))
+
+returns-2 : tie.Need-returns-2
+unfolding depthFor
+returns-2 c =
+    let t = c .before in
+    let s = t .before .before .before .before .before .before in
+    depth-clauses (s .args .n) (s .pre .0 .usable) (rw (carried s, top-short (s .args .x) (ls s) (s .args .n) (high-enough s) (top-read t) (c .if2 .taken)))
+
+returns-3 : tie.Need-returns-3
+unfolding depthFor
+returns-3 c =
+    let t = c .before in
+    let b = t .before .before .before .before in
+    let s = b .before .before in
+    depth-clauses (s .args .n) (s .pre .0 .usable)
+    (rw (carried s, top-reached (s .args .x) (ls s) (s .args .n) (high-enough s) (top-read t) (c .if2 .left), found b))
+
+pub depth-above-one-spec : {M : Type 1} → statement M
+depth-above-one-spec =
+    tie.close
+    (tie.spec
+    mul-top
+    by-pairs-requires
+    returns
+    sub-excesses
+    excesses-requires
+    returns-2
+    returns-3)
