@@ -50,7 +50,7 @@ TAKES(salwoerk_written, 16);
 LIES(salwoerk_written, refusal, 0, 8);
 LIES(salwoerk_written, length, 8, 8);
 
-_Static_assert(SALWOERK_VERSION == 10100, "1.1.0");
+_Static_assert(SALWOERK_VERSION == 20000, "2.0.0");
 
 /* ---- the calls */
 static int passed, failed;
