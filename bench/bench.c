@@ -3,7 +3,8 @@
  *   bench [SEED]    compares every answer, then times Check and Find a depth (list.c times the list program)
  *
  * Answers: random sections and loads, with every refusal of the two calls and values at the limits among them, and the loads at which
- * answers turn (the force at a depth 1 N less and more, MRd 1 N·mm less and more). A difference is printed and ends the run with 1.
+ * answers turn (the force at a depth 1 N less and more, MRd of either face 1 N·mm less and more). A difference is printed and ends the run
+ * with 1.
  *
  * Times: accepted sections with loads, the same for all, in two ways. "Over and over" are FEW sections, gone through again and again: the
  * processor has learnt which way every branch of each goes, as it has of nothing that is checked once. "In turn" are SECTIONS, each seen
@@ -43,14 +44,14 @@ static bool one_in(uint64_t n) { return below(n) == 0; }
 /* ---- comparison */
 static bool equal(salwoerk_report a, salwoerk_report b)
 {
-    return a.refusal == b.refusal && a.u == b.u && a.mrd == b.mrd && a.vrd == b.vrd && a.dm == b.dm && a.area == b.area
-        && !memcmp(a.verdicts, b.verdicts, sizeof a.verdicts);
+    return a.refusal == b.refusal && a.u == b.u && a.mrd == b.mrd && a.other_u == b.other_u && a.other_mrd == b.other_mrd && a.vrd == b.vrd
+        && a.dm == b.dm && a.area == b.area && !memcmp(a.verdicts, b.verdicts, sizeof a.verdicts);
 }
 
 static void print_check(const char *who, salwoerk_report a)
 {
-    printf("%s %llu %llu %lld %llu %llu %llu ", who, (unsigned long long)a.refusal, (unsigned long long)a.u, (long long)a.mrd,
-        (unsigned long long)a.vrd, (unsigned long long)a.dm, (unsigned long long)a.area);
+    printf("%s %llu %llu %lld %llu %lld %llu %llu %llu ", who, (unsigned long long)a.refusal, (unsigned long long)a.u, (long long)a.mrd,
+        (unsigned long long)a.other_u, (long long)a.other_mrd, (unsigned long long)a.vrd, (unsigned long long)a.dm, (unsigned long long)a.area);
     for (int i = 0; i < 5; i++) printf(" %llu", (unsigned long long)a.verdicts[i]);
     printf("\n");
 }
@@ -128,7 +129,8 @@ static void damage(salwoerk_section *s, salwoerk_load *l)
     }
 }
 
-/* The load at which the top, or the bottom for m < 0, has a depth near u: the internal force there in newtons, rounded down. */
+/* The load at which the top, or the bottom for m < 0, has a depth near u: the internal force there in newtons, rounded down, or the last
+ * that both faces reach. */
 static int64_t force_near(const salwoerk_section *s, int64_t m, int64_t u)
 {
     int64_t lo = -500000000, hi = 500000000;
@@ -154,11 +156,12 @@ static void compare_all(void)
             for (int64_t n = turn - 1; n <= turn + 2; n++) {
                 l.n = n;
                 a = compare(&s, l);
-                if (a.refusal || a.mrd < 1) continue;
+                if (a.refusal) continue;
                 int64_t side = l.m < 0 ? -1 : 1;
-                for (int64_t d = -1; d <= 1; d++) {
+                for (int64_t d = -1; d <= 1; d++) { /* both ends of verdict one */
                     compare(&s, (salwoerk_load){ n, side * (a.mrd + d), (int64_t)a.vrd + d });
                     compare(&s, (salwoerk_load){ n, side * (a.mrd + d), -(int64_t)a.vrd - d });
+                    compare(&s, (salwoerk_load){ n, -side * (a.other_mrd + d), (int64_t)a.vrd + d });
                 }
             }
         }

@@ -64,18 +64,26 @@ static inline int64_t force(const salwoerk_layer *layers, size_t count, int64_t 
     return flb * u * u + 800 * sum;
 }
 
-/* The depth, or the refusal 11 or 12. */
-static inline int depth_for(const salwoerk_layer *layers, size_t count, int64_t b, int64_t h, const struct materials *m, int64_t n, int64_t *u)
+/* 11 and 12 of the face that sees the layers so. */
+static inline bool below_range(const salwoerk_layer *layers, size_t count, int64_t flb, const struct materials *m, int64_t n)
 {
-    int64_t flb = m->f * m->l * b, lo = 1, hi = 10 * h;
-    if (force(layers, count, flb, m, 1) > n * 80000) return 11;
-    if (force(layers, count, flb, m, hi) < n * 80000 * hi) return 12;
+    return force(layers, count, flb, m, 1) > n * 80000;
+}
+
+static inline bool above_range(const salwoerk_layer *layers, size_t count, int64_t flb, int64_t h, const struct materials *m, int64_t n)
+{
+    return force(layers, count, flb, m, 10 * h) < n * 80000 * 10 * h;
+}
+
+/* The depth of that face, where neither is so. */
+static inline int64_t depth_for(const salwoerk_layer *layers, size_t count, int64_t flb, int64_t h, const struct materials *m, int64_t n)
+{
+    int64_t lo = 1, hi = 10 * h;
     while (lo < hi) {
         int64_t mid = (lo + hi + 1) / 2;
         if (force(layers, count, flb, m, mid) <= n * 80000 * mid) lo = mid; else hi = mid - 1;
     }
-    *u = lo;
-    return 0;
+    return lo;
 }
 
 static inline bool outside(int64_t x, int64_t limit) { return x < -limit || x > limit; }
@@ -83,11 +91,13 @@ static inline bool outside(int64_t x, int64_t limit) { return x < -limit || x > 
 __attribute__((unused)) static inline salwoerk_depth find_depth(const salwoerk_section *s, int64_t n)
 {
     struct materials m;
-    int64_t u = 0;
     int k = accept(s, &m);
     if (!k && outside(n, 500000000)) k = 8;
-    if (!k) k = depth_for(s->layers, s->count, s->width, s->height, &m, n, &u);
-    return (salwoerk_depth){ (uint64_t)k, (uint64_t)u };
+    if (k) return (salwoerk_depth){ (uint64_t)k, 0 };
+    int64_t flb = m.f * m.l * s->width;
+    if (below_range(s->layers, s->count, flb, &m, n)) return (salwoerk_depth){ 11, 0 };
+    if (above_range(s->layers, s->count, flb, s->height, &m, n)) return (salwoerk_depth){ 12, 0 };
+    return (salwoerk_depth){ 0, (uint64_t)depth_for(s->layers, s->count, flb, s->height, &m, n) };
 }
 
 /* a / b rounded down, b above 0. */
@@ -180,22 +190,32 @@ static inline int64_t shear_resistance(int64_t b, int64_t h, int64_t fck, int64_
 
 static inline int64_t magnitude(int64_t x) { return x < 0 ? -x : x; }
 
-/* What is reported at u. */
-static inline salwoerk_report report(const salwoerk_layer *layers, const salwoerk_section *s, const struct materials *m, const salwoerk_load *l, int64_t u)
+/* A face: the layers as it sees them, its depth under N and its resistance there. */
+struct face { const salwoerk_layer *layers; int64_t u, mrd; };
+
+static inline struct face face_under(const salwoerk_layer *layers, const salwoerk_section *s, int64_t flb, const struct materials *m, int64_t n)
 {
-    int64_t b = s->width, h = s->height, area = 0, moment = 0, all = 0;
-    int64_t mrd = moment_resistance(layers, s->count, b, h, m, u);
+    int64_t u = depth_for(layers, s->count, flb, s->height, m, n);
+    return (struct face){ layers, u, moment_resistance(layers, s->count, s->width, s->height, m, u) };
+}
+
+/* What is reported of the two faces: the one that M compresses is shown. */
+static inline salwoerk_report report(const struct face *top, const struct face *bottom, const salwoerk_section *s, const struct materials *m,
+    const salwoerk_load *l)
+{
+    const struct face *shown = l->m < 0 ? bottom : top, *other = l->m < 0 ? top : bottom;
+    int64_t b = s->width, h = s->height, u = shown->u, area = 0, moment = 0, all = 0;
     for (size_t i = 0; i < s->count; i++) {
-        int64_t d = layers[i].depth, a = 10 * d > u ? layers[i].area : 0;
+        int64_t d = shown->layers[i].depth, a = 10 * d > u ? shown->layers[i].area : 0;
         area += a;
         moment += a * d;
-        all += layers[i].area;
+        all += shown->layers[i].area;
     }
     int64_t dm = area ? moment / area : 0;
     int64_t vrd = shear_resistance(b, h, s->grade.fck, m->g, l->n, area, dm);
     return (salwoerk_report){
-        0, (uint64_t)u, mrd, (uint64_t)vrd, (uint64_t)dm, (uint64_t)area,
-        { magnitude(l->m) > mrd,
+        0, (uint64_t)u, shown->mrd, (uint64_t)other->u, other->mrd, (uint64_t)vrd, (uint64_t)dm, (uint64_t)area,
+        { l->m > top->mrd || l->m < -bottom->mrd,
         !area ? 2 : 10 * u > (s->grade.fck <= 50 ? 45 : 35) * dm,
         !area ? 2 : magnitude(l->v) > vrd,
         !area ? 2 : 26 * m->t * b * dm > 1000 * area * s->grade.fyk || 13 * b * dm > 10000 * area,
@@ -203,22 +223,27 @@ static inline salwoerk_report report(const salwoerk_layer *layers, const salwoer
     };
 }
 
+static inline salwoerk_report refused(int number)
+{
+    return (salwoerk_report){ .refusal = (uint64_t)number, .verdicts = { 2, 2, 2, 2, 2 } };
+}
+
+/* At depth 1 every layer is at its limit, so that 11 is the same for both faces and is asked once; 12 is of either face. */
 static inline salwoerk_report check(const salwoerk_section *s, const salwoerk_load *l)
 {
     struct materials m;
     salwoerk_layer turned[16];
-    const salwoerk_layer *layers = s->layers;
-    int64_t u = 0;
     int k = accept(s, &m);
     if (!k) k = outside(l->n, 500000000) ? 8 : outside(l->m, 1000000000000) ? 9 : outside(l->v, 500000000) ? 10 : 0;
-    if (!k && l->m < 0) {
-        for (size_t i = 0; i < s->count; i++)
-            turned[i] = (salwoerk_layer){ (uint32_t)s->height - s->layers[i].depth, s->layers[i].area };
-        layers = turned;
-    }
-    if (!k) k = depth_for(layers, s->count, s->width, s->height, &m, l->n, &u);
-    if (k) return (salwoerk_report){ .refusal = (uint64_t)k, .verdicts = { 2, 2, 2, 2, 2 } };
-    return report(layers, s, &m, l, u);
+    if (k) return refused(k);
+    int64_t flb = m.f * m.l * s->width;
+    if (below_range(s->layers, s->count, flb, &m, l->n)) return refused(11);
+    if (above_range(s->layers, s->count, flb, s->height, &m, l->n)) return refused(12);
+    for (size_t i = 0; i < s->count; i++)
+        turned[i] = (salwoerk_layer){ (uint32_t)s->height - s->layers[i].depth, s->layers[i].area };
+    if (above_range(turned, s->count, flb, s->height, &m, l->n)) return refused(12);
+    struct face top = face_under(s->layers, s, flb, &m, l->n), bottom = face_under(turned, s, flb, &m, l->n);
+    return report(&top, &bottom, s, &m, l);
 }
 
 #ifdef SAME

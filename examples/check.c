@@ -23,6 +23,7 @@ int main(void)
         return 1;
     }
     printf("u %.1f mm, MRd %lld N mm, VRd,c %d N, dm %d mm, As %d mm2\n", (double)r.u / 10, (long long)r.mrd, (int)r.vrd, (int)r.dm, (int)r.area);
+    printf("the other face: u %.1f mm, MRd %lld N mm\n", (double)r.other_u / 10, (long long)r.other_mrd);
     for (size_t i = 0; i < SALWOERK_VERDICTS; i++)
         printf("%s, %s: %s\n", salwoerk_verdict_clause(i), salwoerk_verdict_question(i), salwoerk_verdict_text(r.verdicts[i]));
     return 0;

@@ -27,8 +27,8 @@ class Load(ctypes.Structure):
 
 
 class Report(ctypes.Structure):
-    _fields_ = [("refusal", c_uint64), ("u", c_uint64), ("mrd", c_int64), ("vrd", c_uint64),
-                ("dm", c_uint64), ("area", c_uint64), ("verdicts", c_uint64 * 5)]
+    _fields_ = [("refusal", c_uint64), ("u", c_uint64), ("mrd", c_int64), ("other_u", c_uint64), ("other_mrd", c_int64),
+                ("vrd", c_uint64), ("dm", c_uint64), ("area", c_uint64), ("verdicts", c_uint64 * 5)]
 
 
 def main():
@@ -37,7 +37,7 @@ def main():
     section = Section(width=300, height=500, grade=Grade(fck=30, fyk=500), count=1)
     section.layers[0] = Layer(depth=450, area=1500)
     report = check(section, Load(n=0, m=200_000_000, v=80_000))
-    print(report.refusal, report.u, report.mrd, report.vrd, report.dm, report.area, *report.verdicts)
+    print(report.refusal, report.u, report.mrd, report.other_u, report.other_mrd, report.vrd, report.dm, report.area, *report.verdicts)
 
 
 if __name__ == "__main__":

@@ -14,8 +14,10 @@
 #include <stddef.h>
 #include <stdint.h>
 
-/* Of this header: MAJOR changes where a caller must be compiled again, MINOR where something is added, PATCH else. */
-#define SALWOERK_VERSION_MAJOR 1
+/* Of this header: MAJOR changes where a caller must be compiled again, MINOR where something is added, PATCH else.
+ * 2.0.0: verdict one and refusal 12 of salwoerk_check look at both faces, and its answer holds other_u and other_mrd before vrd; so whoever calls
+ * it must be compiled again. */
+#define SALWOERK_VERSION_MAJOR 2
 #define SALWOERK_VERSION_MINOR 0
 #define SALWOERK_VERSION_PATCH 0
 #define SALWOERK_VERSION (SALWOERK_VERSION_MAJOR * 10000 + SALWOERK_VERSION_MINOR * 100 + SALWOERK_VERSION_PATCH)
@@ -92,7 +94,7 @@ static inline const char *salwoerk_refusal_text(uint64_t refusal)
     case SALWOERK_BENDING_MOMENT: return "M beyond 1,000,000,000,000 N mm, either sign";
     case SALWOERK_SHEAR_FORCE: return "V beyond 500,000,000 N, either sign";
     case SALWOERK_BELOW_RANGE: return "N below the internal force at depth 1";
-    case SALWOERK_ABOVE_RANGE: return "N above the internal force at depth 10h";
+    case SALWOERK_ABOVE_RANGE: return "N above the internal force at depth 10h, in Check of either face";
     case SALWOERK_DEPTH: return "depth not 1 to 10h tenths of a millimetre";
     case SALWOERK_NO_MAP: return "fewer than 4 bytes";
     case SALWOERK_UNKNOWN_BIT: return "bit 7 or one of 24 to 31 of the map stands";
@@ -139,7 +141,7 @@ static inline const char *salwoerk_verdict_clause(size_t place)
 static inline const char *salwoerk_verdict_question(size_t place)
 {
     static const char *const questions[SALWOERK_VERDICTS] = {
-        "|M| at most MRd", "depth of the neutral axis", "|V| at most VRd,c", "least reinforcement", "most reinforcement"
+        "M within MRd of both faces", "depth of the neutral axis", "|V| at most VRd,c", "least reinforcement", "most reinforcement"
     };
     return place < SALWOERK_VERDICTS ? questions[place] : "";
 }
@@ -154,12 +156,17 @@ salwoerk_depth salwoerk_find_depth(salwoerk_section section, int64_t n);
 typedef struct { uint64_t refusal; int64_t moment; } salwoerk_moment;
 salwoerk_moment salwoerk_moment_at(salwoerk_section section, uint64_t depth);
 
-/* Check, for the face that M compresses. Refusals: section tests, load tests, 11 12. u in tenths of a millimetre, mrd in N mm, vrd in newtons,
- * dm in mm (mean depth of the tension layers), area in mm2 (As). A verdict is one of enum salwoerk_verdict, in the sequence of
- * salwoerk_verdict_clause. */
+/* Check. Refusals: section tests, load tests, 11 12; here 12 is given where N is above the internal force at depth 10h of either face, and 11 is
+ * the same for both. u in tenths of a millimetre and mrd in N mm are of the face that M compresses, the top for M 0; other_u and other_mrd are of
+ * the other face, with that face compressed and the depth measured from it. A resistance may be negative. vrd in newtons, dm in mm (mean depth of
+ * the tension layers) and area in mm2 (As) are of the face that M compresses. A verdict is one of enum salwoerk_verdict, in the sequence of
+ * salwoerk_verdict_clause. The first passes where M is at most the resistance with the top compressed and at least minus that with the bottom
+ * compressed: -other_mrd <= M <= mrd for M at least 0, -mrd <= M <= other_mrd for M below 0. There are sections that no M suits. */
 typedef struct {
     uint64_t refusal, u;
     int64_t mrd;
+    uint64_t other_u;
+    int64_t other_mrd;
     uint64_t vrd, dm, area;
     uint64_t verdicts[SALWOERK_VERDICTS];
 } salwoerk_report;

@@ -125,12 +125,14 @@ def joined(label, samples, encode):
 
 
 def inspect(tally, rng, answers):
-    """Where the accepted records stand, and the accuracy of their answers."""
+    """Where N and the accepted records stand, and the accuracy of what their lines show."""
     for _, subject, report in answers:
-        if report.refusal == 0:
-            reading = second.read_record(subject)
-            tally.coverage.note_turns(reading.section, reading.load, report)
-            check_accuracy(tally, rng, reading.section, reading.load, report.u, report.mrd)
+        if report.refusal in (0, *second.FACE_TESTS):
+            _, _, section, load = second.read_record(subject)
+            tally.coverage.note_axial_turns(section, load)
+            if report.refusal == 0:
+                tally.coverage.note_turns(section, load, report)
+                check_accuracy(tally, rng, section, load, report.u, report.mrd, second.as_compressed(section, load.m))
 
 
 def compare_program(tally, rng, program, samples):

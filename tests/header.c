@@ -31,14 +31,16 @@ LIES(salwoerk_depth, depth, 8, 8);
 TAKES(salwoerk_moment, 16);
 LIES(salwoerk_moment, refusal, 0, 8);
 LIES(salwoerk_moment, moment, 8, 8);
-TAKES(salwoerk_report, 88);
+TAKES(salwoerk_report, 104);
 LIES(salwoerk_report, refusal, 0, 8);
 LIES(salwoerk_report, u, 8, 8);
 LIES(salwoerk_report, mrd, 16, 8);
-LIES(salwoerk_report, vrd, 24, 8);
-LIES(salwoerk_report, dm, 32, 8);
-LIES(salwoerk_report, area, 40, 8);
-LIES(salwoerk_report, verdicts, 48, 40);
+LIES(salwoerk_report, other_u, 24, 8);
+LIES(salwoerk_report, other_mrd, 32, 8);
+LIES(salwoerk_report, vrd, 40, 8);
+LIES(salwoerk_report, dm, 48, 8);
+LIES(salwoerk_report, area, 56, 8);
+LIES(salwoerk_report, verdicts, 64, 40);
 TAKES(salwoerk_reading, 208);
 LIES(salwoerk_reading, refusal, 0, 8);
 LIES(salwoerk_reading, length, 8, 8);
@@ -48,7 +50,7 @@ TAKES(salwoerk_written, 16);
 LIES(salwoerk_written, refusal, 0, 8);
 LIES(salwoerk_written, length, 8, 8);
 
-_Static_assert(SALWOERK_VERSION == 10000, "1.0.0");
+_Static_assert(SALWOERK_VERSION == 20000, "2.0.0");
 
 /* ---- the calls */
 static int passed, failed;
@@ -160,6 +162,7 @@ static void answers(void)
 
     salwoerk_report r = salwoerk_check(section_a(), load);
     require("Check", r.refusal == 0 && r.u == 1358 && r.mrd == 257986051 && r.vrd == 86851 && r.dm == 450 && r.area == 1500);
+    require("Check, the other face", r.other_u == 419 && r.other_mrd == 6312569);
     r = salwoerk_check(section_a(), over);
     require("verdict one fails alone", r.verdicts[0] == SALWOERK_FAIL && !r.verdicts[1] && !r.verdicts[2] && !r.verdicts[3] && !r.verdicts[4]);
     load.n = 2505000;
@@ -168,8 +171,32 @@ static void answers(void)
         && r.verdicts[2] == SALWOERK_NOT_REACHED && r.verdicts[3] == SALWOERK_NOT_REACHED && r.verdicts[4] == SALWOERK_PASS);
     load.n = 500000001;
     r = salwoerk_check(section_a(), load);
-    require("a refusal has zeros", r.refusal == SALWOERK_AXIAL_FORCE && !r.u && !r.mrd && !r.vrd && !r.dm && !r.area);
+    require("a refusal has zeros", r.refusal == SALWOERK_AXIAL_FORCE && !r.u && !r.mrd && !r.other_u && !r.other_mrd && !r.vrd && !r.dm
+        && !r.area);
     for (size_t i = 0; i < SALWOERK_VERDICTS; i++) require("and verdicts 2", r.verdicts[i] == SALWOERK_NOT_REACHED);
+}
+
+/* Section A hung on its one layer stands for M from 130,314,020 to 130,553,980 only. */
+static void both_faces(void)
+{
+    static const struct { int64_t m; uint64_t verdict; } ends[] = {
+        { 0, SALWOERK_FAIL }, { 130314019, SALWOERK_FAIL }, { 130314020, SALWOERK_PASS }, { 130553980, SALWOERK_PASS }, { 130553981, SALWOERK_FAIL },
+    };
+    salwoerk_load load = { -651690, 0, 0 };
+    for (size_t i = 0; i < sizeof ends / sizeof *ends; i++) {
+        load.m = ends[i].m;
+        salwoerk_report r = salwoerk_check(section_a(), load);
+        require("verdict one of both faces", r.refusal == 0 && r.verdicts[0] == ends[i].verdict && r.u == 1 && r.other_u == 1
+            && r.mrd == 130553980 && r.other_mrd == -130314020);
+    }
+    load.n = 0;
+    load.m = -1;
+    salwoerk_report turned = salwoerk_check(section_a(), load);
+    require("the bottom shown, the top other", turned.u == 419 && turned.mrd == 6312569 && turned.other_u == 1358 && turned.other_mrd == 257986051);
+    load.n = 2505001; /* the bottom reaches it, the top does not */
+    turned = salwoerk_check(section_a(), load);
+    require("12 of the other face, and zeros", turned.refusal == SALWOERK_ABOVE_RANGE && !turned.u && !turned.mrd && !turned.other_u
+        && !turned.other_mrd);
 }
 
 static void list(void)
@@ -216,6 +243,7 @@ int main(void)
     round_trip();
     refused_reading();
     answers();
+    both_faces();
     list();
     texts();
     printf("%d passed, %d failed\n", passed, failed);

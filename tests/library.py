@@ -12,7 +12,7 @@ from ctypes import POINTER, c_int64, c_size_t, c_uint8, c_uint32, c_uint64
 import second
 from samples import SIXTEEN, Sample, UNDER_LOAD, all_samples, record, with_layer
 from second import Layer, Load, Section
-from tally import check_accuracy
+from tally import check_accuracy, check_accuracy_of_faces
 
 # --- table 1: structs -------------------------------------------------------
 
@@ -24,8 +24,9 @@ STRUCTS = {
     "Load": [("n", c_int64), ("m", c_int64), ("v", c_int64)],
     "Depth": [("refusal", c_uint64), ("u", c_uint64)],
     "Moment": [("refusal", c_uint64), ("moment", c_int64)],
-    "Report": [("refusal", c_uint64), ("u", c_uint64), ("mrd", c_int64), ("vrd", c_uint64),
-               ("dm", c_uint64), ("area", c_uint64), ("verdicts", c_uint64, second.VERDICTS)],
+    "Report": [("refusal", c_uint64), ("u", c_uint64), ("mrd", c_int64), ("other_u", c_uint64),
+               ("other_mrd", c_int64), ("vrd", c_uint64), ("dm", c_uint64), ("area", c_uint64),
+               ("verdicts", c_uint64, second.VERDICTS)],
     "Reading": [("refusal", c_uint64), ("length", c_size_t), ("section", "Section"),
                 ("load", "Load")],
     "Written": [("refusal", c_uint64), ("length", c_size_t)],
@@ -118,8 +119,8 @@ class Engine:
     def check(self, section, load):
         """The report, verdicts as numbers."""
         answer = self.calls["check"](self.section(section), self.load(load))
-        return second.Report(answer.refusal, answer.u, answer.mrd, answer.vrd, answer.dm,
-                             answer.area, tuple(answer.verdicts))
+        return second.Report(answer.refusal, answer.u, answer.mrd, answer.other_u, answer.other_mrd,
+                             answer.vrd, answer.dm, answer.area, tuple(answer.verdicts))
 
     def read(self, data):
         """The reading, with every place of the section's layers."""
@@ -185,9 +186,9 @@ def compare_depth(tally, rng, engine, sample):
     tally.compare(f"Find a depth, {sample.label}", hexadecimal(section, load),
                   second.find_depth(section, load.n), answer)
     refusal, u = answer
-    if refusal == 0 and 1 <= u <= second.greatest_depth(section):
+    if refusal == 0:
         _, moment = engine.moment(section, u)
-        check_accuracy(tally, rng, section, load._replace(m=0), u, moment)
+        check_accuracy(tally, rng, section, load, u, moment, second.upright(section))
 
 
 def compare_moment(tally, rng, engine, sample):
@@ -201,13 +202,13 @@ def compare_moment(tally, rng, engine, sample):
 
 
 def compare_check(tally, rng, engine, sample):
-    """Check, and demand 3 with its own MRd."""
+    """Check, and demand 3 with its own MRd of each face."""
     section, load = sample.section, sample.load
     answer = engine.check(section, load)
     tally.compare(f"Check, {sample.label}", hexadecimal(section, load),
                   second.check(section, load), answer)
-    if answer.refusal == 0 and 1 <= answer.u <= second.greatest_depth(section):
-        check_accuracy(tally, rng, section, load, answer.u, answer.mrd)
+    if answer.refusal == 0:
+        check_accuracy_of_faces(tally, rng, section, load, answer)
 
 
 def compare_write(tally, rng, engine, sample):

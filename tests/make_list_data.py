@@ -43,12 +43,16 @@ def without(bit):
 
 
 def accepted():
-    """Records that are checked: both faces, both ends of N, verdicts that fail, the largest sizes."""
+    """Records that are checked: both faces, both ends of N and of M, verdicts that fail, the largest sizes."""
     full = section_of(2_000, 2_000, 90, 600, [(1_999, 20_000)] * 16)
     high = section_of(250, 600, 80, 550, [(50, 400), (540, 1_200), (560, 1_300)])
     return [
         record(load=Load(0, -1, 0)),
         record(load=Load(-651_690, 0, 0)),
+        record(load=Load(-651_690, 130_314_019, 0)),
+        record(load=Load(-651_690, 130_314_020, 0)),
+        record(load=Load(-651_690, 130_553_980, 0)),
+        record(load=Load(-651_690, 130_553_981, 0)),
         record(load=Load(2_505_000, 0, 1)),
         record(load=Load(0, 257_986_051, 86_851)),
         record(load=Load(0, 257_986_052, -86_852)),
@@ -76,6 +80,7 @@ def refused():
         record(load=Load(0, 0, -500_000_001)),  # 10
         record(load=Load(-651_691, 0, 0)),     # 11
         record(load=Load(2_505_001, 0, 0)),    # 12
+        record(load=Load(2_505_001, -1, 0)),   # 12: of the top, which M does not compress
         without(MANDATORY_BITS[0]),            # 23
         bytes(4),                              # 23: no bit stands
     ]

@@ -5,6 +5,7 @@ so each one that 01 makes reachable has to be met at least once.
 """
 
 from collections import Counter
+from math import ceil, floor
 
 import second
 
@@ -19,18 +20,56 @@ REACHABLE = ((0, 1), (0, 1, 2), (0, 1, 2), (0, 1, 2), (0, 1))
 assert len(REACHABLE) == second.VERDICTS
 
 
+def beside(name, value, bound):
+    """The value a unit below the bound, at it, and a unit above it."""
+    yield f"{name} - 1", value == bound - 1
+    yield name, value == bound
+    yield f"{name} + 1", value == bound + 1
+
+
+def first_verdict_turns(load, report):
+    """Both ends of verdict one, and what its interval holds."""
+    top, bottom = (report.mrd, report.other_mrd) if load.m >= 0 else (report.other_mrd, report.mrd)
+    yield from beside("M is MRd of the top", load.m, top)
+    yield from beside("M is minus MRd of the bottom", load.m, -bottom)
+    yield "M < 0 is MRd of the top", load.m == top < 0
+    yield "M > 0 is minus MRd of the bottom", load.m == -bottom > 0
+    yield "M of both signs passes", -bottom < 0 < top
+    yield "only M > 0 passes", 0 < -bottom <= top
+    yield "only M < 0 passes", -bottom <= top < 0
+    yield "no M passes", top < -bottom
+    yield "M fails by the face that it compresses", abs(load.m) > report.mrd
+    yield "M fails by the other face alone", abs(load.m) <= report.mrd and report.verdicts[0] == second.FAIL
+
+
 def bending_turns(seen, load, report):
-    """Where verdicts one and two turn, and where a layer is just reached."""
+    """What the two depths and resistances are, and where verdict two turns."""
     limit = second.depth_limit(seen.fck) * report.dm
-    yield "|M| is MRd", abs(load.m) == report.mrd
-    yield "|M| is MRd + 1", abs(load.m) == report.mrd + 1
     yield "MRd is negative", report.mrd < 0
+    yield "MRd of the other face is negative", report.other_mrd < 0
     yield "a layer at 10d = u", any(10 * layer.depth == report.u
                                     for layer in second.counted(seen))
     yield "u the last or first beyond 5.6.3(2)", report.dm > 0 and abs(10 * report.u - limit) < 10
     yield "turned over", load.m < 0
     yield "u is 1", report.u == 1
     yield "u is 10h", report.u == second.greatest_depth(seen)
+    yield "u of the other face is 1", report.other_u == 1
+    yield "u of the other face is 10h", report.other_u == second.greatest_depth(seen)
+
+
+def axial_turns(section, load):
+    """Where 11 and 12 turn, for a record that no earlier test refuses."""
+    top, bottom = second.upright(section), second.turned_over(section)
+    last = second.greatest_depth(section)
+    least = ceil(second.internal_force(top, 1))  # of both faces
+    of_top, of_bottom = (floor(second.internal_force(face, last)) for face in (top, bottom))
+    yield from beside("N is the least at depth 1", load.n, least)
+    yield from beside("N is the last at 10h of the top", load.n, of_top)
+    yield from beside("N is the last at 10h of the bottom", load.n, of_bottom)
+    for sign, compressed in (("M < 0", load.m < 0), ("M >= 0", load.m >= 0)):
+        yield f"12 of the top alone, {sign}", compressed and of_top < load.n <= of_bottom
+        yield f"12 of the bottom alone, {sign}", compressed and of_bottom < load.n <= of_top
+    yield "12 of both faces", load.n > max(of_top, of_bottom)
 
 
 def shear_turns(seen, load, report):
@@ -63,7 +102,7 @@ def turns(section, load, report):
     """The names of all turns that an accepted record meets."""
     seen = second.as_compressed(section, load.m)
     area = sum(layer.area for layer in second.counted(seen))
-    found = [*bending_turns(seen, load, report),
+    found = [*first_verdict_turns(load, report), *bending_turns(seen, load, report),
              ("25 times all areas is b·h", 25 * area == seen.width * seen.height)]
     if report.area:
         found += [*shear_turns(seen, load, report), *steel_turns(seen, load, report)]
@@ -90,6 +129,11 @@ class Coverage:
         for name, met in turns(section, load, report):
             self.turns[name] += met
 
+    def note_axial_turns(self, section, load):
+        """Count where N of a sample stands that is accepted, 11 or 12."""
+        for name, met in axial_turns(section, load):
+            self.turns[name] += met
+
     def never_met(self, refusals):
         """What had to be met and was not."""
         missing = [f"refusal {number}" for number in refusals if not self.refusals[number]]
@@ -105,6 +149,6 @@ class Coverage:
         yield "verdicts of accepted records    pass      fail  not reached"
         for place, counter in enumerate(self.verdicts, 1):
             yield f"  v{place}                     {counter[0]:11}{counter[1]:10}{counter[2]:13}"
-        yield "where the accepted boundary and random records stand"
+        yield "where the boundary and random records stand: N, then all else of those accepted"
         for name, times in self.turns.items():
             yield f"  {name}: {times}"

@@ -108,22 +108,24 @@ def reference_samples():
     loads = ((0, 0), (0, -1), (-651_690, 0), (2_505_000, 0))
     yield from (Sample(f"A, N {n}, M {m}", a, Load(n, m, 0), 0) for n, m in loads)
     yield Sample("A, N -651691", a, Load(-651_691, 0, 0), 11)
-    yield Sample("A, N 2505001", a, Load(2_505_001, 0, 0), 12)
+    for n, m in ((2_505_001, 0), (2_505_001, -1), (3_052_170, -1), (3_052_171, -1)):
+        yield Sample(f"A, N {n}, M {m}", a, Load(n, m, 0), 12)
     yield Sample("A, depth 500", with_layer(a, 0, depth=500), UNDER_LOAD, 6)
     yield Sample("A, depth 499", with_layer(a, 0, depth=499), UNDER_LOAD, 0)
     yield Sample("A, width 49, fck 31", a._replace(width=49, fck=31), UNDER_LOAD, 1)
 
 
 def end_samples():
-    """Tests 11 and 12 at the very newton, for both faces compressed."""
-    for section in (second.SECTION_A, SIXTEEN, SIXTEEN._replace(fck=70, fyk=463)):
+    """Tests 11 and 12 at the very newton of both faces, whichever M compresses."""
+    for section in (second.SECTION_A, SHALLOW, SIXTEEN, SIXTEEN._replace(fck=70, fyk=463)):
+        faces = second.upright(section), second.turned_over(section)
+        least = ceil(second.internal_force(section, 1))
+        mosts = [floor(second.internal_force(seen, second.greatest_depth(seen))) for seen in faces]
         for m in (0, -1):
-            seen = second.as_compressed(section, m)
-            least = ceil(second.internal_force(seen, 1))
-            most = floor(second.internal_force(seen, second.greatest_depth(seen)))
-            for n, refusal in ((least - 1, 11), (least, 0), (least + 1, 0),
-                               (most - 1, 0), (most, 0), (most + 1, 12)):
-                yield Sample(f"ends, N {n}, M {m}", section, Load(n, m, 0), refusal)
+            for n in (least - 1, least, least + 1):
+                yield Sample(f"depth 1, N {n}, M {m}", section, Load(n, m, 0), 0 if n >= least else 11)
+            for n in (most + more for most in mosts for more in (-1, 0, 1)):
+                yield Sample(f"depth 10h, N {n}, M {m}", section, Load(n, m, 0), 0 if n <= min(mosts) else 12)
 
 
 # One way to fail each test of Check alone, by its number; 6 fails late and 7
@@ -175,11 +177,23 @@ def with_steel(section, area):
     return with_layer(section, 0, area=area)
 
 
+def first_verdict_samples():
+    """Verdict one at both ends of its interval: of both signs, one sign, or empty."""
+    a, narrow = second.SECTION_A, second.NO_MOMENT_SUITS
+    for section, n in ((a, 0), (SIXTEEN, 1_000_000), (a, -651_690), (second.turned_over(a), -651_690),
+                       (narrow, 0), (second.turned_over(narrow), 0)):
+        answer = second.check(section, Load(n, 0, 0))  # of the top, and of the bottom as the other face
+        for m in (end + more for end in (answer.mrd, -answer.other_mrd, 0) for more in (-1, 0, 1)):
+            yield Sample(f"N {n}, M {m}", section, Load(n, m, 0), 0)
+
+
 def bending_turn_samples():
-    """Verdicts one and two at the turn: MRd of the paper, 10d = u, 5.6.3(2)."""
+    """Verdicts one and two at the turn: MRd of the papers, 10d = u, 5.6.3(2)."""
     a = second.SECTION_A
     for m in (257_986_050, 257_986_051, 257_986_052, -6_312_569, -6_312_570):
         yield Sample(f"A, M {m}", a, Load(0, m, 0), 0)
+    for m in (130_314_019, 130_314_020, 130_553_980, 130_553_981):
+        yield Sample(f"A, N -651690, M {m}", a, Load(-651_690, m, 0), 0)
     for fck in (30, 50, 55, 90):
         section = a._replace(fck=fck)
         limit = second.depth_limit(fck) * 450 // 10
@@ -224,7 +238,7 @@ def load_presence_samples():
 def all_samples():
     """Every fixed sample of this file."""
     for group in (field_samples, class_samples, count_samples, layer_samples, load_samples,
-                  reference_samples, end_samples, order_samples, bending_turn_samples,
-                  shear_turn_samples, steel_turn_samples, size_factor_samples,
-                  steel_samples, load_presence_samples):
+                  reference_samples, end_samples, order_samples, first_verdict_samples,
+                  bending_turn_samples, shear_turn_samples, steel_turn_samples,
+                  size_factor_samples, steel_samples, load_presence_samples):
         yield from group()

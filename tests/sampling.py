@@ -1,8 +1,8 @@
 """Random sections and loads, placed where an answer turns.
 
-N is taken at the internal force of a whole depth, M at the moment resistance,
-V at the shear resistance, each a unit to either side, and areas at the limits
-of 9.2.1.1. The generator is handed in, so a seed repeats a run.
+N is taken at the internal force of a whole depth, M at the moment resistance
+of either face, V at the shear resistance, each a unit to either side, and areas
+at the limits of 9.2.1.1. The generator is handed in, so a seed repeats a run.
 """
 
 from math import ceil, floor
@@ -76,6 +76,14 @@ def random_section(rng):
     return with_layer(section, len(layers) - 1, area=area)
 
 
+def lopsided_section(rng):
+    """A small section with one layer close to a face: often no M suits it."""
+    width, height = rng.randint(50, 300), rng.randint(50, 400)
+    cover = rng.randint(1, 3)
+    layer = Layer(rng.choice((cover, height - cover)), rng.randint(1, 20_000))
+    return second.section_of(width, height, rng.choice(second.CLASSES), rng.randint(400, 600), [layer])
+
+
 # --- loads ------------------------------------------------------------------
 
 
@@ -97,13 +105,17 @@ def turning_axial_force(rng, seen):
 
 
 def turning_load(rng, section):
-    """N, then M and V at the resistances that belong to N and the face."""
+    """N, then M at an end of verdict one, and V at the resistance that belongs to both.
+
+    The end is MRd of the top, or minus MRd of the bottom. Where that resistance
+    is negative, M compresses the face of the other end.
+    """
     sign = rng.choice((1, -1))
     n = turning_axial_force(rng, second.as_compressed(section, sign))
-    answer = second.check(section, Load(n, sign, 0))
-    moment = held(beside(rng, answer.mrd), 0 if sign > 0 else 1, M_MOST)
-    shear = max(0, beside(rng, answer.vrd))
-    return Load(n, sign * moment, rng.choice((1, -1)) * shear)
+    end = second.check(section, Load(n, sign, 0)).mrd
+    m = held(beside(rng, sign * end), -M_MOST, M_MOST)
+    shear = max(0, beside(rng, second.check(section, Load(n, m, 0)).vrd))
+    return Load(n, m, rng.choice((1, -1)) * shear)
 
 
 def spoiled(rng, section, load):
@@ -118,9 +130,9 @@ def spoiled(rng, section, load):
 
 
 def random_samples(rng, number):
-    """As many random samples; one in twelve is spoiled."""
+    """As many random samples; one in ten is lopsided, one in twelve is spoiled."""
     for place in range(number):
-        section = random_section(rng)
+        section = lopsided_section(rng) if rng.random() < 1 / 10 else random_section(rng)
         load = turning_load(rng, section)
         if rng.random() < 1 / 12:
             section, load = spoiled(rng, section, load)

@@ -2,11 +2,14 @@
 """Second implementation of the rectangular section engine, EN 1992-1-1.
 
 Written from document 01 (papers/01-scope.md), heading by heading and in its
-order, with whole numbers and exact fractions only. It shares no code with the
-engine and takes no care of speed: it is here to be read beside the paper.
+order, with whole numbers and exact fractions only; where a request of document
+02 (papers/02-change-requests.md) changes a sentence, the request is named. It
+shares no code with the engine and takes no care of speed: it is here to be
+read beside the papers.
 
 Run by itself it answers every row of "Reference cases" and prints 'ok' or
-'DIFFERS' for each; the expected values there are the paper's.
+'DIFFERS' for each; the expected values there are the papers', and the project's
+own for the section that no M suits.
 """
 
 import sys
@@ -130,9 +133,19 @@ def turned_over(section):
     return section._replace(layers=turned)
 
 
+def upright(section):
+    """As the top sees it: the counted layers with their depths as given."""
+    return section._replace(layers=counted(section))
+
+
 def as_compressed(section, m):
     """'The face that M compresses is the top for M ≥ 0.'"""
-    return section if m >= 0 else turned_over(section)
+    return upright(section) if m >= 0 else turned_over(section)
+
+
+def as_other_face(section, m):
+    """As the face sees it that M does not compress: the bottom for M ≥ 0."""
+    return turned_over(section) if m >= 0 else upright(section)
 
 
 def greatest_depth(section):
@@ -188,6 +201,7 @@ def is_depth_returned(section, n, u):
             and (u == last or internal_force(section, u + 1) > n))
 
 
+@lru_cache(maxsize=None)
 def depth_returned(section, n):
     """'the greatest u of the range at which the internal force is at most N'
 
@@ -264,17 +278,17 @@ def moment_accurate(seen, u, moment_reported, depth):
     return abs(unrounded_moment(seen, depth) - moment_reported) <= allowance(seen, growth)
 
 
-def accuracy_holds(section, load, u, moment_reported, p, q):
-    """Demand 3 at the one depth of p/q tenths, for an accepted call.
+def accuracy_holds(seen, n, u, moment_reported, p, q):
+    """Demand 3 at the one depth of p/q tenths, for one face of an accepted call.
 
-    The load's m gives the face compressed in the call (0 for Find a depth).
-    A depth outside the range is not compared.
+    Find a depth has the top alone. Of Check the statement 'covers the depths of
+    both faces, each with the resistance that the first verdict takes for it'
+    (02, request 1). A depth outside the range is not compared.
     """
-    seen = as_compressed(section, load.m)
     depth = Fraction(p, q)
     if not 1 <= depth <= greatest_depth(seen):
         return True
-    return force_accurate(seen, load.n, u, depth) and moment_accurate(seen, u, moment_reported, depth)
+    return force_accurate(seen, n, u, depth) and moment_accurate(seen, u, moment_reported, depth)
 
 
 # --------------------------------------------------------------------------
@@ -304,9 +318,10 @@ def tension_reinforcement(section, u):
     return area, floor(Fraction(sum(layer.area * layer.depth for layer in layers), area))
 
 
-def bending_verdict(load, mrd):
-    """1. 6.1: 'pass when |M| ≤ MRd'."""
-    return verdict(abs(load.m) <= mrd)
+def bending_verdict(m, top, bottom):
+    """1. 6.1, as request 1 of 02 has it: 'M is at most the resistance with the top
+    compressed and at least minus the resistance with the bottom compressed'."""
+    return verdict(-bottom <= m <= top)
 
 
 def depth_limit(fck):
@@ -390,6 +405,8 @@ class Report(NamedTuple):
     refusal: int
     u: int
     mrd: int
+    other_u: int    # of the face that M does not compress
+    other_mrd: int
     vrd: int
     dm: int
     area: int  # As
@@ -398,12 +415,25 @@ class Report(NamedTuple):
 
 def refused(number):
     """'A refusal returns zeros and verdicts 2.'"""
-    return Report(number, 0, 0, 0, 0, 0, (NOT_REACHED,) * VERDICTS)
+    return Report(number, 0, 0, 0, 0, 0, 0, 0, (NOT_REACHED,) * VERDICTS)
 
 
-def report_at(seen, load, u):
-    """The numbers and the five verdicts, for the section as compressed."""
-    mrd = moment_resistance(seen, u)
+def resistance_under(seen, n):
+    """The depth of a compressed face under N, and the moment resistance there."""
+    u = depth_returned(seen, n)
+    return u, moment_resistance(seen, u)
+
+
+def report_of(section, load):
+    """The numbers and the five verdicts.
+
+    'The depth and the resistance shown are still those of the face that M
+    compresses' (02, request 1); so are As, dm and VRd,c.
+    """
+    seen = as_compressed(section, load.m)
+    u, mrd = resistance_under(seen, load.n)
+    other_u, other_mrd = resistance_under(as_other_face(section, load.m), load.n)
+    top, bottom = (mrd, other_mrd) if load.m >= 0 else (other_mrd, mrd)
     area, dm = tension_reinforcement(seen, u)
     vrd = shear_resistance(seen, load.n, area, dm)
     if area == 0:  # "the second, third and fourth verdicts are 2"
@@ -411,8 +441,8 @@ def report_at(seen, load, u):
     else:
         middle = (rotation_verdict(seen, u, dm), shear_verdict(load, vrd),
                   least_steel_verdict(seen, area, dm))
-    verdicts = (bending_verdict(load, mrd), *middle, most_steel_verdict(seen))
-    return Report(0, u, mrd, vrd, dm, area, verdicts)
+    verdicts = (bending_verdict(load.m, top, bottom), *middle, most_steel_verdict(seen))
+    return Report(0, u, mrd, other_u, other_mrd, vrd, dm, area, verdicts)
 
 
 # --------------------------------------------------------------------------
@@ -567,19 +597,35 @@ def load_tests(load):
     )
 
 
-def face_tests(seen, n):
-    """'11 N below the internal force at depth 1, 12 N above ... at depth 10h'"""
-    return (
-        (11, n < internal_force(seen, 1)),
-        (12, n > internal_force(seen, greatest_depth(seen))),
-    )
+def below_range(seen, n):
+    """'11 N below the internal force at depth 1'"""
+    return n < internal_force(seen, 1)
+
+
+def above_range(seen, n):
+    """'12 N above the internal force at depth 10h'"""
+    return n > internal_force(seen, greatest_depth(seen))
+
+
+def top_tests(section, n):
+    """11 and 12 of Find a depth: 'the compressed face is always the top here'."""
+    top = upright(section)
+    return (11, below_range(top, n)), (12, above_range(top, n))
+
+
+def face_tests(section, load):
+    """11 and 12 of Check: 11 'for the face compressed', and 12 'when N exceeds the
+    internal force at 10h of either face' (02, request 1)."""
+    seen, other = as_compressed(section, load.m), as_other_face(section, load.m)
+    return ((11, below_range(seen, load.n)),
+            (12, above_range(seen, load.n) or above_range(other, load.n)))
 
 
 def find_depth(section, n):
-    """Find a depth: the section tests, 8, 11, 12; 'always the top here'. Refusal and u."""
+    """Find a depth: the section tests, 8, 11, 12 of the top. Refusal and u."""
     refusal = (first_failing(section_tests(section) + axial_test(n))
-               or first_failing(face_tests(section, n)))
-    return (refusal, 0) if refusal else (0, depth_returned(section, n))
+               or first_failing(top_tests(section, n)))
+    return (refusal, 0) if refusal else (0, depth_returned(upright(section), n))
 
 
 def moment_at_depth(section, u):
@@ -590,15 +636,10 @@ def moment_at_depth(section, u):
 
 
 def check(section, load):
-    """Check: section and load tests, 'then 11 and 12 for the face compressed'."""
-    refusal = first_failing(section_tests(section) + load_tests(load))
-    if refusal:
-        return refused(refusal)
-    seen = as_compressed(section, load.m)
-    refusal = first_failing(face_tests(seen, load.n))
-    if refusal:
-        return refused(refusal)
-    return report_at(seen, load, depth_returned(seen, load.n))
+    """Check: section and load tests, then 11, and 12 of either face."""
+    refusal = (first_failing(section_tests(section) + load_tests(load))
+               or first_failing(face_tests(section, load)))
+    return refused(refusal) if refusal else report_of(section, load)
 
 
 UNREADABLE = (20, 21, 22)  # refusals after which no length is known
@@ -694,10 +735,11 @@ def list_text(data):
 
 
 # --------------------------------------------------------------------------
-# Reference cases: expected values written out from the paper
+# Reference cases: expected values written out from the papers
 # --------------------------------------------------------------------------
 
 SECTION_A = section_of(300, 500, 30, 500, [(450, 1_500)])
+NO_MOMENT_SUITS = section_of(50, 50, 25, 400, [(1, 1_500)])  # under N 0 verdict one has an empty interval
 EXAMPLE = bytes.fromhex(
     "0000016F" "000000000000012C" "00000000000001F4" "000000000000001E"
     "00000000000001F4" "000000000BEBC200" "0000000000013880" "000001C2000005DC")
@@ -725,6 +767,41 @@ def equilibrium_rows():
         ("A, N 2,505,000: MRd", at_end.mrd, 99_000_000),
         ("A, N 2,505,000: verdicts two to four", at_end.verdicts[1:4], (2, 2, 2)),
         ("A, N 2,505,001: refusal 12", find_depth(SECTION_A, 2_505_001), (12, 0)),
+    ]
+
+
+def both_faces_rows():
+    """Request 1 of 02: verdict one and refusal 12 of both faces."""
+    def first_verdicts(section, n, *ms):
+        return [check(section, Load(n, m, 0)).verdicts[0] for m in ms]
+
+    def refusals(m, *ns):
+        return [check(SECTION_A, Load(n, m, 0)).refusal for n in ns]
+
+    def faces(section, n, m):
+        report = check(section, Load(n, m, 0))
+        return report.u, report.mrd, report.other_u, report.other_mrd
+
+    a, narrow = SECTION_A, NO_MOMENT_SUITS
+    most = 10**12
+    return [
+        ("A, N -651,690: M 0 fails", first_verdicts(a, -651_690, 0), [FAIL]),
+        ("A, N -651,690: from 130,314,020", first_verdicts(a, -651_690, 130_314_019, 130_314_020), [FAIL, PASS]),
+        ("A, N -651,690: to 130,553,980", first_verdicts(a, -651_690, 130_553_980, 130_553_981), [PASS, FAIL]),
+        ("A, N -651,690: both faces", faces(a, -651_690, 0), (1, 130_553_980, 1, -130_314_020)),
+        ("A, N 0: both faces", faces(a, 0, 0), (1_358, 257_986_051, 419, 6_312_569)),
+        ("A, M -1: both faces", faces(a, 0, -1), (419, 6_312_569, 1_358, 257_986_051)),
+        ("A, force at depth 1 of both faces",
+         internal_force(turned_over(a), 1), internal_force(a, 1)),
+        ("A, N -651,691: 11 for either M", refusals(0, -651_691) + refusals(-1, -651_691), [11, 11]),
+        ("A, M 0: 12 from 2,505,001", refusals(0, 2_505_000, 2_505_001), [0, 12]),
+        ("A, M -1: 12 from 2,505,001", refusals(-1, 2_505_000, 2_505_001), [0, 12]),
+        ("A from the bottom: last N", [above_range(turned_over(a), n) for n in (3_052_170, 3_052_171)], [False, True]),
+        ("A, M -1: 12 there too", refusals(-1, 3_052_170, 3_052_171), [12, 12]),
+        ("50 x 50, N 0: both faces", faces(narrow, 0, 0), (9, -2_785_222, 475, 985_713)),
+        ("50 x 50, N 0: M at and about both ends, and the farthest fail",
+         set(first_verdicts(narrow, 0, -most, -2_785_223, -2_785_222, -2_785_221, -985_714, -985_713, -985_712, -1, 0, 1,
+                            985_713, 2_785_222, most)), {FAIL}),
     ]
 
 
@@ -769,12 +846,12 @@ def sequence_rows():
 
     section = numbers(section_tests(SECTION_A))
     load = numbers(load_tests(NO_LOAD))
-    face = numbers(face_tests(SECTION_A, 0))
+    face, top = numbers(face_tests(SECTION_A, NO_LOAD)), numbers(top_tests(SECTION_A, 0))
     return [
         ("section tests", section, (1, 2, 3, 4, 5, 6, 7)),
         ("load tests", load, (8, 9, 10)),
         ("tests of Check", section + load + face, SEQUENCES["Check"]),
-        ("tests of Find a depth", section + numbers(axial_test(0)) + face, SEQUENCES["Find a depth"]),
+        ("tests of Find a depth", section + numbers(axial_test(0)) + top, SEQUENCES["Find a depth"]),
         ("bits of no field", FORBIDDEN_BITS, (7, 24, 25, 26, 27, 28, 29, 30, 31)),
         ("bytes of the longest record", LONGEST_RECORD, 188),
     ]
@@ -783,7 +860,7 @@ def sequence_rows():
 def main():
     """Print every reference case; exit status 1 where one differs."""
     failed = 0
-    rows = equilibrium_rows() + clause_rows() + refusal_rows() + sequence_rows()
+    rows = equilibrium_rows() + both_faces_rows() + clause_rows() + refusal_rows() + sequence_rows()
     for name, computed, expected in rows:
         same = computed == expected
         failed += not same

@@ -42,9 +42,18 @@ def depths_compared(rng, section, u):
     return rng.sample((*ends, below, within, beyond, anywhere), 2)
 
 
-def check_accuracy(tally, rng, section, load, u, moment):
-    """Demand 3 for one accepted answer, in exact fractions at a few depths."""
-    for p, q in depths_compared(rng, section, u):
-        tally.require(f"accuracy at {p}/{q} for u {u} and moment {moment} of "
+def check_accuracy(tally, rng, section, load, u, moment, seen):
+    """Demand 3 for one face of an accepted answer, in exact fractions at a few depths."""
+    if not 1 <= u <= second.greatest_depth(seen):
+        return  # no depth at all, which the comparison of answers has told
+    face = "the top" if seen == second.upright(section) else "the bottom"
+    for p, q in depths_compared(rng, seen, u):
+        tally.require(f"accuracy at {p}/{q} from {face} for u {u} and moment {moment} of "
                       f"{record(section, load).hex()}",
-                      second.accuracy_holds(section, load, u, moment, p, q))
+                      second.accuracy_holds(seen, load.n, u, moment, p, q))
+
+
+def check_accuracy_of_faces(tally, rng, section, load, report):
+    """Demand 3 for what Check reports of both faces."""
+    check_accuracy(tally, rng, section, load, report.u, report.mrd, second.as_compressed(section, load.m))
+    check_accuracy(tally, rng, section, load, report.other_u, report.other_mrd, second.as_other_face(section, load.m))

@@ -57,10 +57,11 @@ class Library(CommandTest):
         status, text = output_of(program)
         self.assertEqual(status, 0)
         self.assertEqual(text.splitlines()[0], "u 135.8 mm, MRd 257986051 N mm, VRd,c 86851 N, dm 450 mm, As 1500 mm2")
+        self.assertEqual(text.splitlines()[1], "the other face: u 41.9 mm, MRd 6312569 N mm")
         self.assertEqual(text.splitlines()[-1], "9.2.1.1(3), most reinforcement: pass")
 
     def test_the_example_in_python(self):
-        self.assertEqual(output_of("python3", EXAMPLES / "check.py", SHARED), (0, "0 1358 257986051 86851 450 1500 0 0 0 0 0\n"))
+        self.assertEqual(output_of("python3", EXAMPLES / "check.py", SHARED), (0, "0 1358 257986051 419 6312569 86851 450 1500 0 0 0 0 0\n"))
 
     def test_the_library_gives_no_other_names(self):
         _, text = output_of("nm", "-D", "--defined-only", SHARED)
