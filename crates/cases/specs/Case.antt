@@ -89,8 +89,8 @@ shearIs ls (section.Refused j) u k y z = false
 
 unfoldable pub sameListed : Listed → Listed → Bool
 sameListed a b =
-    eqb (a .refusal) (b .refusal) && eqb (a .u) (b .u) && sameℤ (a .mrd) (b .mrd) && eqb (a .vrd) (b .vrd) && eqb (a .dm) (b .dm) && eqb (a .area) (b .area)
-    && sameNumbers (a .verdicts) (b .verdicts)
+    eqb (a .refusal) (b .refusal) && eqb (a .u) (b .u) && sameℤ (a .mrd) (b .mrd) && eqb (a .other .u) (b .other .u) && sameℤ (a .other .mrd) (b .other .mrd)
+    && eqb (a .vrd) (b .vrd) && eqb (a .dm) (b .dm) && eqb (a .area) (b .area) && sameNumbers (a .verdicts) (b .verdicts)
 
 abbrev pub holds : Case → Bool
 holds (material grade m) = isMaterial (materialsOf grade) m

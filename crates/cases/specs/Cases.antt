@@ -1,6 +1,7 @@
 -- Worked cases, and that they hold: one computed test over the definitions. Every case of document 01 that is marked (P) has its rows
 -- here, in 01's order. Beside them stand the example of 01's list, the refusals 11 and 12 also as Check gives them, every class of the
--- table with the letters that follow from it, and both ends of the steel's range with what lies beyond. Assumes nothing.
+-- table with the letters that follow from it, and both ends of the steel's range with what lies beyond; at the end, the cases of 02's
+-- request 1, with numbers of the paper or of the second implementation. Assumes nothing.
 use Prim.Native.Nat.{ℕ}
 use mathlib.Core.List.{List, [], _∷_}
 use mathlib.Core.Path.{_≡_}
@@ -27,8 +28,9 @@ use Rattle.equilibrium.specs.Moment.{momentIn}
 use Rattle.shear.specs.SizeFactor.{K}
 use Rattle.shear.specs.Shear.{r, q, v, c, concreteShare, axialShare, VRdc}
 use Rattle.clauses.specs.Tension.{tensionLayers, total, meanDepth}
+use Rattle.clauses.specs.declared.Face.{Face}
 use Rattle.clauses.specs.declared.Listed.{Listed}
-use Rattle.clauses.specs.Check.{refusedListed, reportAt, checkIn}
+use Rattle.clauses.specs.Check.{refusedListed, reportOf, reportAt, checkIn}
 use Rattle.cases.specs.Case.{Case, Case.material, Case.noMaterial, Case.tests, Case.force, Case.found, Case.resists, Case.turnedSteel}
 use Rattle.cases.specs.Case.{Case.sizeFactor, Case.shearNumbers, Case.checks, shearIs, sameListed, holds}
 
@@ -52,10 +54,22 @@ A = one 300 500 30 450
 abbrev load : ℤ → ℤ → ℤ → Load
 load n m v = record { n = n; m = m; v = v }
 
--- u, MRd, VRd,c, dm, As and the five verdicts of a call that is not refused
-abbrev line : ℕ → ℤ → ℕ → ℕ → ℕ → ℕ → ℕ → ℕ → ℕ → ℕ → Listed
-line u mrd vrd dm area v1 v2 v3 v4 v5 =
-    record { refusal = 0; u = u; mrd = mrd; vrd = vrd; dm = dm; area = area; verdicts = v1 ∷ v2 ∷ v3 ∷ v4 ∷ v5 ∷ [] }
+-- 50 by 50, fck 25, fyk 400, one layer of 1,500 at 1
+abbrev B : Section
+B = record { width = pos 50; height = pos 50; grade = grade 25 400; count = 1; layers = record { depth = 1; area = 1500 } ∷ replicate 15 noLayer }
+
+-- u and MRd of a face
+abbrev face : ℕ → ℤ → Face
+face u mrd = record { u = u; mrd = mrd }
+
+-- the face that M compresses, the other, VRd,c, dm, As and the five verdicts of a call that is not refused
+abbrev line : Face → Face → ℕ → ℕ → ℕ → ℕ → ℕ → ℕ → ℕ → ℕ → Listed
+line f o vrd dm area v1 v2 v3 v4 v5 =
+    record { refusal = 0; u = f .u; mrd = f .mrd; other = o; vrd = vrd; dm = dm; area = area; verdicts = v1 ∷ v2 ∷ v3 ∷ v4 ∷ v5 ∷ [] }
+
+-- A under N −651,690 with M of at least 0: what is listed, by verdict one
+abbrev hanger : ℕ → Listed
+hanger v1 = line (face 1 (pos 130553980)) (face 1 (negℤ (pos 130314020))) 0 450 1500 v1 0 0 0 0
 
 pub cases : List Case
 cases =
@@ -65,7 +79,7 @@ cases =
     ∷ force A 1359 (pos 150)
     ∷ resists A 1358 0 (pos 257986051)
     -- (P) A with M −1: turned over, and the layer alone
-    ∷ checks A (load (pos 0) (negℤ (pos 1)) (pos 0)) (line 419 (pos 6312569) 14090 50 1500 0 1 0 0 0)
+    ∷ checks A (load (pos 0) (negℤ (pos 1)) (pos 0)) (line (face 419 (pos 6312569)) (face 1358 (pos 257986051)) 14090 50 1500 0 1 0 0 0)
     ∷ turnedSteel A 419 (negℤ (pos 40596659))
     -- (P) the least N, and below it
     ∷ found A (negℤ (pos 651690)) 0 1
@@ -74,7 +88,7 @@ cases =
     -- (P) the greatest N, where verdicts two to four are 2, and above it
     ∷ found A (pos 2505000) 0 5000
     ∷ resists A 5000 0 (pos 99000000)
-    ∷ checks A (load (pos 2505000) (pos 0) (pos 0)) (line 5000 (pos 99000000) 0 0 0 0 2 2 2 0)
+    ∷ checks A (load (pos 2505000) (pos 0) (pos 0)) (line (face 5000 (pos 99000000)) (face 3860 (pos 307561680)) 0 0 0 0 2 2 2 0)
     ∷ found A (pos 2505001) 12 0
     ∷ checks A (load (pos 2505001) (pos 0) (pos 0)) (refusedListed 12)
     -- (P) A, N 0: K, r and q
@@ -116,7 +130,20 @@ cases =
     -- (P) width 49 with fck 31
     ∷ tests (one 49 500 31 450) 1
     -- the example of the list
-    ∷ checks A (load (pos 0) (pos 200000000) (pos 80000)) (line 1358 (pos 257986051) 86851 450 1500 0 0 0 0 0)
+    ∷ checks A (load (pos 0) (pos 200000000) (pos 80000)) (line (face 1358 (pos 257986051)) (face 419 (pos 6312569)) 86851 450 1500 0 0 0 0 0)
+    -- request 1: the hanger passes from 130,314,020 to 130,553,980, and not with no moment
+    ∷ checks A (load (negℤ (pos 651690)) (pos 130314020) (pos 0)) (hanger 0)
+    ∷ checks A (load (negℤ (pos 651690)) (pos 130553980) (pos 0)) (hanger 0)
+    ∷ checks A (load (negℤ (pos 651690)) (pos 130314019) (pos 0)) (hanger 1)
+    ∷ checks A (load (negℤ (pos 651690)) (pos 130553981) (pos 0)) (hanger 1)
+    ∷ checks A (load (negℤ (pos 651690)) (pos 0) (pos 0)) (hanger 1)
+    -- request 1: the bottom reaches up to 3,052,170, and the top does not
+    ∷ checks A (load (pos 2505001) (negℤ (pos 1)) (pos 0)) (refusedListed 12)
+    ∷ checks A (load (pos 3052170) (negℤ (pos 1)) (pos 0)) (refusedListed 12)
+    -- request 1: MRd of the top is below −MRd of the bottom, so that no M passes (`none-between`)
+    ∷ checks B (load (pos 0) (pos 0) (pos 0)) (line (face 9 (negℤ (pos 2785222))) (face 475 (pos 985713)) 44 1 1500 1 1 0 0 1)
+    ∷ checks B (load (pos 0) (negℤ (pos 985713)) (pos 0)) (line (face 475 (pos 985713)) (face 9 (negℤ (pos 2785222))) 2166 49 1500 1 1 0 0 1)
+    ∷ checks B (load (pos 0) (negℤ (pos 2785222)) (pos 0)) (line (face 475 (pos 985713)) (face 9 (negℤ (pos 2785222))) 2166 49 1500 1 1 0 0 1)
     ∷ []
 
 -- the seal of the materials, opened for all of them at once
@@ -131,5 +158,5 @@ cases-hold = rw everywhere (
     depthFactor strengthFactor L f g s
     at concreteForce stress layerForce steelForce internalForce concreteMoment layerMoment steelResistance momentResistance
     turned carries reaches
-    tensionLayers total meanDepth K r q v c concreteShare axialShare VRdc reportAt
+    tensionLayers total meanDepth K r q v c concreteShare axialShare VRdc reportOf reportAt
     in tt)

@@ -3,7 +3,8 @@
 use Prim.Native.Nat.{ℕ, _+_, _*_, _^_, _≤_, _<_}
 use mathlib.Core.List.{List, [], _++_}
 use mathlib.Core.Path.{_≡_}
-use lib.IntN.{ℤ}
+use lib.IntN.{ℤ, negℤ}
+use lib.Signed.{_<ℤ_}
 use lib.ListN.{length}
 use Rattle.arith.specs.Greatest.{IsGreatest}
 use Rattle.section.specs.declared.Layer.{Layer}
@@ -25,6 +26,8 @@ use Rattle.equilibrium.proofs.DepthOne as depthOne
 use Rattle.shear.specs.SizeFactor.{K}
 use Rattle.shear.specs.Shear.{rTest, r, qTest, q}
 use Rattle.clauses.specs.Tension.{tensionLayers, As, dm}
+use Rattle.clauses.specs.declared.Verdict.the-variants.{Fail}
+use Rattle.clauses.specs.Verdicts.{first}
 use Rattle.clauses.specs.Check.{checkOf}
 use Rattle.clauses.proofs.Laws as clauses
 use Rattle.record.specs.Map.{recordLength}
@@ -62,6 +65,10 @@ usable-faces s e = (usable-by s e, usable-turned (layersOf s) (usable-by s e))
 -- test 11 says the same of both faces
 pub one-turned : {x : Design} {n : ℕ} (ls : List Layer) (N : ℤ) → Usable x n ls → carries x (turned (x .h) ls) N 1 ≡ carries x ls N 1
 one-turned = depthOne.one-turned
+
+-- verdict one has an interval of M, which is empty where MRd of the top is below −MRd of the bottom
+pub none-between : (M top bottom : ℤ) → top <ℤ negℤ bottom → first M top bottom ≡ Fail
+none-between = clauses.none-between
 
 -- r and q are the greatest of all numbers that pass their tests, not only up to a bound
 pub r-greatest : {x : Design} {n : ℕ} (ls : List Layer) → Usable x n ls → (u : ℕ) → 1 ≤ As u ls

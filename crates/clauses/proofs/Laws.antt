@@ -1,12 +1,16 @@
 -- Laws of the clauses that documents cite and no contract needs. Assumes nothing.
 use Prim.Native.Nat.{ℕ, _*_, _≤_}
-use mathlib.Core.Bool.{true}
+use mathlib.Core.Bool.{Bool, true, false, _&&_}
 use mathlib.Core.List.{List, []}
-use mathlib.Core.Path.{_≡_}
+use mathlib.Core.Path.{_≡_, refl}
 use native.Mathlib.Nat.{mul-le-mul, mul-le-mul-left, le-div-iff-mul-le}
 use native.Mathlib.Omega.{arith}
+use lib.IntN.{ℤ, negℤ}
+use lib.Signed.{leZ, _<ℤ_}
 use Rattle.arith.specs.Every.{every}
 use Rattle.arith.specs.Greatest.{IsGreatest}
+use Rattle.arith.proofs.Ring.{#, ⊖, le?, lt?}
+use Rattle.arith.proofs.Test.{le-true}
 use Rattle.section.specs.declared.Layer.{Layer}
 use Rattle.section.specs.declared.Section.{Section}
 use Rattle.section.specs.declared.Load.{Load}
@@ -20,6 +24,8 @@ use Rattle.shear.specs.Code.Ranges.{StressBounds}
 use Rattle.shear.proofs.Roots as roots
 use Rattle.shear.proofs.Roots.{K-high}
 use Rattle.clauses.specs.Tension.{tensionLayers, total, areaOf, firstMoment, meanDepth, As, dm}
+use Rattle.clauses.specs.declared.Verdict.the-variants.{Fail}
+use Rattle.clauses.specs.Verdicts.{judged, first}
 use Rattle.clauses.specs.Check.{checkOf}
 use Rattle.clauses.proofs.Layers.{total-le, all-tension, mean-is, counts, As-high, dm-high}
 use Rattle.clauses.proofs.Layers as layers
@@ -51,6 +57,18 @@ module _ {x : Design} {n : ℕ} (ls : List Layer) (w : Usable x n ls) (u : ℕ) 
 -- As is 0 only where no layer is in tension
 pub no-tension : {x : Design} {n : ℕ} (ls : List Layer) → Usable x n ls → (u : ℕ) → As u ls ≡ 0 → tensionLayers u ls ≡ []
 no-tension ls w u z = layers.no-tension u ls (w .areas) z
+
+-- verdict one has no M to pass where MRd of the top is below −MRd of the bottom
+pub none-between : (M top bottom : ℤ) → top <ℤ negℤ bottom → first M top bottom ≡ Fail
+none-between M top bottom h = go (leZ M top) (leZ (negℤ bottom) M) refl refl
+  where
+    go : (t b : Bool) → leZ M top ≡ t → leZ (negℤ bottom) M ≡ b → judged (t && b) ≡ Fail
+    go false b e f = refl
+    go true false e f = refl
+    go true true e f =
+        let high = le? (# M) (# top) (le-true M top e) in
+        let low = le? (⊖ (# bottom)) (# M) (le-true (negℤ bottom) M f) in
+        absurd (omega (arith, high, low, lt? (# top) (⊖ (# bottom)) h))
 
 -- places beyond the count: sections that differ only there have one answer
 pub beyond-check : (s t : Section) (load : Load) → counted s ≡ counted t → checkOf s load ≡ checkOf t load
