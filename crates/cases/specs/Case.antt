@@ -47,8 +47,6 @@ pub data Case : Type 0 where
   sizeFactor : ℕ → ℕ → Case
   -- a section and N; then K, r and q of the tension layers at the depth that is found
   shearNumbers : Section → ℤ → ℕ → ℕ → ℕ → Case
-  -- Check: a section and a load; then what is listed
-  checks : Section → Load → Listed → Case
 
 abbrev sameℤ : ℤ → ℤ → Bool
 sameℤ a b = leZ a b && leZ b a
@@ -102,4 +100,12 @@ holds (resists s u k m) = eqb (moment.refusalNumber (moment.momentAt s u)) k && 
 holds (turnedSteel s u z) = turnedGives (layersOf s) (sections.accepted (counted s)) u z
 holds (sizeFactor d k) = eqb (K d) k
 holds (shearNumbers s N k y z) = shearIs (layersOf s) (sections.accepted (counted s)) (depth.depthFound (depth.findDepth s N)) k y z
-holds (checks s load l) = sameListed (listed (checkOf s load)) l
+
+-- a row of Check: a section and a load; then what is listed
+pub record CheckRow : Type 0 where
+  pub section : Section
+  pub load : Load
+  pub lists : Listed
+
+abbrev pub checkHolds : CheckRow → Bool
+checkHolds row = sameListed (listed (checkOf (row .section) (row .load))) (row .lists)

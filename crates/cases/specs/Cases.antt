@@ -1,38 +1,22 @@
--- Worked cases, and that they hold: one computed test over the definitions. Every case of document 01 that is marked (P) has its rows
--- here, in 01's order. Beside them stand the example of 01's list, the refusals 11 and 12 also as Check gives them, every class of the
+-- Worked cases; that they hold, one computed test over the definitions, is `cases-hold` of the proofs. Every case of document 01 that is
+-- marked (P) has its rows here, in 01's order. Beside them stand the example of 01's list, the refusals 11 and 12 also as Check gives them, every class of the
 -- table with the letters that follow from it, and both ends of the steel's range with what lies beyond; at the end, the cases of 02's
 -- request 1, with numbers of the paper or of the second implementation. Assumes nothing.
 use Prim.Native.Nat.{ℕ}
 use mathlib.Core.List.{List, [], _∷_}
-use mathlib.Core.Path.{_≡_}
-use lib.Dec.{T}
 use lib.IntN.{ℤ, pos, negℤ}
 use lib.ListN.{replicate}
-use Rattle.arith.specs.Every.{every}
-use Rattle.arith.specs.Fraction.{whole, integer, ratio, _+ᶠ_, _-ᶠ_, _*ᶠ_, _/ᶠ_, _÷ᶠ_, atMost, isSame, held, floor, roundedDown}
-use Rattle.arith.specs.Greatest.{greatest}
 use Rattle.materials.specs.declared.Grade.{Grade}
-use Rattle.materials.specs.Strength.{depthFactor, strengthFactor, L, f, g, s}
-use Rattle.materials.specs.Situation.{persistent}
-use Rattle.materials.specs.Answer.{materialsIn, materialsOf, opened}
+use Rattle.materials.specs.Strength.{f, g, s}
 use Rattle.section.specs.declared.Section.{Section}
 use Rattle.section.specs.declared.Load.{Load}
 use Rattle.section.specs.Section.{noLayer}
-use Rattle.equilibrium.specs.Force.{at, concreteForce, stress, layerForce, steelForce, internalForce}
-use Rattle.equilibrium.specs.Force.{concreteMoment, layerMoment, steelResistance, momentResistance}
-use Rattle.section.specs.Refusals.{sectionTests, accepted}
-use Rattle.equilibrium.specs.Refusals.{carries, reaches}
-use Rattle.section.specs.Turned.{turned}
-use Rattle.equilibrium.specs.Depth.{depthIn}
-use Rattle.equilibrium.specs.Moment.{momentIn}
-use Rattle.shear.specs.SizeFactor.{K}
-use Rattle.shear.specs.Shear.{r, q, v, c, concreteShare, axialShare, VRdc}
-use Rattle.clauses.specs.Tension.{tensionLayers, total, meanDepth}
+use Rattle.shear.specs.Shear.{v}
 use Rattle.clauses.specs.declared.Face.{Face}
 use Rattle.clauses.specs.declared.Listed.{Listed}
-use Rattle.clauses.specs.Check.{refusedListed, reportOf, reportAt, checkIn}
+use Rattle.clauses.specs.Check.{refusedListed}
 use Rattle.cases.specs.Case.{Case, Case.material, Case.noMaterial, Case.tests, Case.force, Case.found, Case.resists, Case.turnedSteel}
-use Rattle.cases.specs.Case.{Case.sizeFactor, Case.shearNumbers, Case.checks, shearIs, sameListed, holds}
+use Rattle.cases.specs.Case.{Case.sizeFactor, Case.shearNumbers, CheckRow}
 
 -- fck and fyk
 abbrev grade : ℕ → ℕ → Grade
@@ -71,7 +55,10 @@ line f o vrd dm area v1 v2 v3 v4 v5 =
 abbrev hanger : ℕ → Listed
 hanger v1 = line (face 1 (pos 130553980)) (face 1 (negℤ (pos 130314020))) 0 450 1500 v1 0 0 0 0
 
-pub cases : List Case
+abbrev checks : Section → Load → Listed → CheckRow
+checks s l lists = record { section = s; load = l; lists = lists }
+
+unfoldable pub cases : List Case
 cases =
     -- (P) N 0 from the top
     found A (pos 0) 0 1358
@@ -79,18 +66,14 @@ cases =
     ∷ force A 1359 (pos 150)
     ∷ resists A 1358 0 (pos 257986051)
     -- (P) A with M −1: turned over, and the layer alone
-    ∷ checks A (load (pos 0) (negℤ (pos 1)) (pos 0)) (line (face 419 (pos 6312569)) (face 1358 (pos 257986051)) 14090 50 1500 0 1 0 0 0)
     ∷ turnedSteel A 419 (negℤ (pos 40596659))
     -- (P) the least N, and below it
     ∷ found A (negℤ (pos 651690)) 0 1
     ∷ found A (negℤ (pos 651691)) 11 0
-    ∷ checks A (load (negℤ (pos 651691)) (pos 0) (pos 0)) (refusedListed 11)
     -- (P) the greatest N, where verdicts two to four are 2, and above it
     ∷ found A (pos 2505000) 0 5000
     ∷ resists A 5000 0 (pos 99000000)
-    ∷ checks A (load (pos 2505000) (pos 0) (pos 0)) (line (face 5000 (pos 99000000)) (face 3860 (pos 307561680)) 0 0 0 0 2 2 2 0)
     ∷ found A (pos 2505001) 12 0
-    ∷ checks A (load (pos 2505001) (pos 0) (pos 0)) (refusedListed 12)
     -- (P) A, N 0: K, r and q
     ∷ shearNumbers A (pos 0) 1666 3218 11778
     -- (P) K
@@ -129,6 +112,18 @@ cases =
     ∷ tests (one 300 500 30 499) 0
     -- (P) width 49 with fck 31
     ∷ tests (one 49 500 31 450) 1
+    ∷ []
+
+-- the rows of Check
+unfoldable pub checkRows : List CheckRow
+checkRows =
+    -- (P) A with M −1: turned over
+    checks A (load (pos 0) (negℤ (pos 1)) (pos 0)) (line (face 419 (pos 6312569)) (face 1358 (pos 257986051)) 14090 50 1500 0 1 0 0 0)
+    -- (P) below the least N
+    ∷ checks A (load (negℤ (pos 651691)) (pos 0) (pos 0)) (refusedListed 11)
+    -- (P) the greatest N, where verdicts two to four are 2, and above it
+    ∷ checks A (load (pos 2505000) (pos 0) (pos 0)) (line (face 5000 (pos 99000000)) (face 3860 (pos 307561680)) 0 0 0 0 2 2 2 0)
+    ∷ checks A (load (pos 2505001) (pos 0) (pos 0)) (refusedListed 12)
     -- the example of the list
     ∷ checks A (load (pos 0) (pos 200000000) (pos 80000)) (line (face 1358 (pos 257986051)) (face 419 (pos 6312569)) 86851 450 1500 0 0 0 0 0)
     -- request 1: the hanger passes from 130,314,020 to 130,553,980, and not with no moment
@@ -145,18 +140,3 @@ cases =
     ∷ checks B (load (pos 0) (negℤ (pos 985713)) (pos 0)) (line (face 475 (pos 985713)) (face 9 (negℤ (pos 2785222))) 2166 49 1500 1 1 0 0 1)
     ∷ checks B (load (pos 0) (negℤ (pos 2785222)) (pos 0)) (line (face 475 (pos 985713)) (face 9 (negℤ (pos 2785222))) 2166 49 1500 1 1 0 0 1)
     ∷ []
-
--- the seal of the materials, opened for all of them at once
-everywhere : materialsOf ≡ materialsIn persistent
-everywhere = λ i grade. opened grade i
-
-pub cases-hold : T (every holds cases)
-unfolding cases sectionTests accepted depthIn momentIn checkIn
-cases-hold = rw everywhere (
-    unfold shearIs sameListed
-    whole integer ratio _+ᶠ_ _-ᶠ_ _*ᶠ_ _/ᶠ_ _÷ᶠ_ atMost isSame held floor roundedDown greatest
-    depthFactor strengthFactor L f g s
-    at concreteForce stress layerForce steelForce internalForce concreteMoment layerMoment steelResistance momentResistance
-    turned carries reaches
-    tensionLayers total meanDepth K r q v c concreteShare axialShare VRdc reportOf reportAt
-    in tt)

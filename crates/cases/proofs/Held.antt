@@ -1,0 +1,44 @@
+-- The worked cases hold: one computed test over the definitions. Assumes nothing.
+use mathlib.Core.Path.{_≡_}
+use lib.Dec.{T}
+use Rattle.arith.specs.Every.{every}
+use Rattle.arith.specs.Fraction.{whole, integer, ratio, _+ᶠ_, _-ᶠ_, _*ᶠ_, _/ᶠ_, _÷ᶠ_, atMost, isSame, held, floor, roundedDown}
+use Rattle.arith.specs.Greatest.{greatest}
+use Rattle.materials.specs.Strength.{depthFactor, strengthFactor, L, f, g, s}
+use Rattle.materials.specs.Situation.{persistent}
+use Rattle.materials.specs.Answer.{materialsIn, materialsOf, opened}
+use Rattle.equilibrium.specs.Force.{at, concreteForce, stress, layerForce, steelForce, internalForce}
+use Rattle.equilibrium.specs.Force.{concreteMoment, layerMoment, steelResistance, momentResistance}
+use Rattle.section.specs.Refusals.{sectionTests, accepted}
+use Rattle.equilibrium.specs.Refusals.{carries, reaches}
+use Rattle.section.specs.Turned.{turned}
+use Rattle.equilibrium.specs.Depth.{depthIn}
+use Rattle.equilibrium.specs.Moment.{momentIn}
+use Rattle.shear.specs.SizeFactor.{K}
+use Rattle.shear.specs.Shear.{r, q, v, c, concreteShare, axialShare, VRdc}
+use Rattle.clauses.specs.Tension.{tensionLayers, total, meanDepth}
+use Rattle.clauses.specs.Check.{reportOf, reportAt, checkIn}
+use Rattle.cases.specs.Case.{shearIs, sameListed, holds, checkHolds}
+use Rattle.cases.specs.Cases.{cases, checkRows}
+use Rattle.cases.proofs.Quick.{isDepth, reports, shows, all-sound}
+
+-- the seal of the materials, opened for all of them at once
+everywhere : materialsOf ≡ materialsIn persistent
+everywhere = λ i grade. opened grade i
+
+both-hold : T (every holds cases) × T (every shows checkRows)
+unfolding cases checkRows sectionTests accepted depthIn momentIn checkIn
+both-hold = rw everywhere (
+    unfold shearIs sameListed isDepth reports
+    whole integer ratio _+ᶠ_ _-ᶠ_ _*ᶠ_ _/ᶠ_ _÷ᶠ_ atMost isSame held floor roundedDown greatest
+    depthFactor strengthFactor L f g s
+    at concreteForce stress layerForce steelForce internalForce concreteMoment layerMoment steelResistance momentResistance
+    turned carries reaches
+    tensionLayers total meanDepth K r q v c concreteShare axialShare VRdc reportOf reportAt
+    in (tt, tt))
+
+pub cases-hold : T (every holds cases)
+cases-hold = both-hold .0
+
+pub checks-hold : T (every checkHolds checkRows)
+checks-hold = all-sound checkRows (both-hold .1)
