@@ -32,7 +32,7 @@ use Rattle.clauses.specs.declared.Report.{Report}
 use Rattle.clauses.specs.declared.Checked.{Checked}
 use Rattle.clauses.specs.declared.Checked.the-variants.{Done, Refused}
 use Rattle.clauses.specs.Refusals.{facesTests, facesTestsOf, checkTests}
-use Rattle.clauses.specs.Check.{topFace, bottomFace, reportOf, reportAt, reported, checkFaces, checkIn, checkOf, refusalNumber}
+use Rattle.clauses.specs.Check.{faceAt, reportOf, reportAt, reported, checkFaces, checkIn, checkOf, refusalNumber}
 use Rattle.clauses.specs.Verdicts.{numberOf, first}
 use Rattle.clauses.specs.Accuracy.{topOf, bottomOf, AccurateFaces, AccurateReport, AccurateCheck}
 
@@ -85,21 +85,14 @@ module _ (x : Design) (load : Load) (top bottom : List Layer) (t b : ℕ) where
   abbrev report : Report
   report = reportAt x load top bottom t b
 
-  top-is : topOf (load .m) report ≡ topFace x load top bottom t b
+  faces-are : (topOf (load .m) report ≡ faceAt x top t) × (bottomOf (load .m) report ≡ faceAt x bottom b)
   unfolding reportAt reportOf
-  top-is = go (leZ (pos 0) (load .m)) (topFace x load top bottom t b) (bottomFace x load top bottom t b)
+  faces-are = go (leZ (pos 0) (load .m)) (faceAt x top t) (faceAt x bottom b)
     where
-      go : (z : Bool) (f g : Face) → cond z (record { u = cond z f g .u; mrd = cond z f g .mrd }) (cond z g f) ≡ f
-      go true f g = refl
-      go false f g = refl
-
-  bottom-is : bottomOf (load .m) report ≡ bottomFace x load top bottom t b
-  unfolding reportAt reportOf
-  bottom-is = go (leZ (pos 0) (load .m)) (topFace x load top bottom t b) (bottomFace x load top bottom t b)
-    where
-      go : (z : Bool) (f g : Face) → cond z (cond z g f) (record { u = cond z f g .u; mrd = cond z f g .mrd }) ≡ g
-      go true f g = refl
-      go false f g = refl
+      go : (z : Bool) (f g : Face) → (cond z (record { u = cond z f g .u; mrd = cond z f g .mrd }) (cond z g f) ≡ f)
+          × (cond z (cond z g f) (record { u = cond z f g .u; mrd = cond z f g .mrd }) ≡ g)
+      go true f g = (refl, refl)
+      go false f g = (refl, refl)
 
   moment-is : report .moment ≡ numberOf (first (load .m) (momentResistance x top t) (momentResistance x bottom b))
   unfolding reportAt reportOf
@@ -155,8 +148,9 @@ module _ (s : Section) (load : Load) where
       → AccurateFaces x (layersOf s) load (reportAt x load (layersOf s) (turned (x .h) (layersOf s)) t b)
   of-report x t b p q =
       let ls = layersOf s in
-      let top = top-is x load ls (turned (x .h) ls) t b in
-      let bottom = bottom-is x load ls (turned (x .h) ls) t b in
+      let faces = faces-are x load ls (turned (x .h) ls) t b in
+      let top = faces .0 in
+      let bottom = faces .1 in
       record {
         top = subst (λ (f : Face). Accurate x ls (load .n) (f .u) (f .mrd)) (sym top) p;
         bottom = subst (λ (f : Face). Accurate x (turned (x .h) ls) (load .n) (f .u) (f .mrd)) (sym bottom) q;

@@ -63,18 +63,19 @@ module _ (x : Design) (ls : List Layer) (load : Load) (face other : Face) (momen
         most = numberOf (fifth (areaOf ls) (x .b) (x .h));
       }
 
+-- a face that sees the layers as ls, at the depth u
+abbrev pub faceAt : Design → List Layer → ℕ → Face
+faceAt x ls u = record { u = u; mrd = momentResistance x ls u }
+
 -- of both faces, which see the layers as `top` and `bottom`, at the depths t and b
-module _ (x : Design) (load : Load) (top bottom : List Layer) (t b : ℕ) where
-  abbrev pub topFace : Face
-  topFace = record { u = t; mrd = momentResistance x top t }
-
-  abbrev pub bottomFace : Face
-  bottomFace = record { u = b; mrd = momentResistance x bottom b }
-
-  unfoldable pub reportAt : Report
-  reportAt =
-      reportOf x (ofCompressed (load .m) top bottom) load (ofCompressed (load .m) topFace bottomFace) (ofOther (load .m) topFace bottomFace)
-      (first (load .m) (topFace .mrd) (bottomFace .mrd))
+unfoldable pub reportAt : Design → Load → List Layer → List Layer → ℕ → ℕ → Report
+reportAt x load top bottom t b =
+    reportOf x
+    (ofCompressed (load .m) top bottom)
+    load
+    (ofCompressed (load .m) (faceAt x top t) (faceAt x bottom b))
+    (ofOther (load .m) (faceAt x top t) (faceAt x bottom b))
+    (first (load .m) (momentResistance x top t) (momentResistance x bottom b))
 
 -- the report, each face at the depth that it has under N
 abbrev pub reported : List Layer → List Layer → Load → Design → Checked

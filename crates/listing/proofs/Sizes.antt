@@ -45,7 +45,7 @@ use Rattle.clauses.specs.declared.Verdict.the-variants.{Pass, Fail, NotReached}
 use Rattle.clauses.specs.declared.Checked.the-variants.{Done}
 use Rattle.clauses.specs.Verdicts.{numberOf, first, second, third, fourth, fifth}
 use Rattle.clauses.specs.Tension.{areaOf, As, dm}
-use Rattle.clauses.specs.Check.{refusedListed, listed, topFace, bottomFace, reportOf, reportAt, checkFaces, checkOf}
+use Rattle.clauses.specs.Check.{refusedListed, listed, faceAt, reportOf, reportAt, checkFaces, checkOf}
 use Rattle.clauses.proofs.Layers.{counts, As-high, dm-high}
 use Rattle.clauses.proofs.Checking.{check-refused, load-refused, load-passed, top-refused, bottom-refused, both-at}
 use Rattle.listing.proofs.Longest.{Fitting}
@@ -143,8 +143,8 @@ module _ {x : Design} {count : ℕ} (ls : List Layer) (l : Load) (w : Usable x c
   unfolding reportAt
   either-fits t b d e = go (leZ (pos 0) (l .m))
     where
-      go : (z : Bool) → Fitting (listed (Done (reportOf x (cond z ls below) l (cond z (topFace x l ls below t b) (bottomFace x l ls below t b))
-          (cond z (bottomFace x l ls below t b) (topFace x l ls below t b)) (first (l .m) (momentResistance x ls t) (momentResistance x below b)))))
+      go : (z : Bool) → Fitting (listed (Done (reportOf x (cond z ls below) l (cond z (faceAt x ls t) (faceAt x below b))
+          (cond z (faceAt x below b) (faceAt x ls t)) (first (l .m) (momentResistance x ls t) (momentResistance x below b)))))
       go true = report-fits ls l _ _ _ w ok d (resistance-in w d)
       go false = report-fits below l _ _ _ (usable-turned ls w) ok e (resistance-in (usable-turned ls w) e)
 
