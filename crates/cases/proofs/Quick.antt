@@ -37,7 +37,8 @@ unfoldable pub isDepth : Design → List Layer → ℤ → ℕ → Bool
 isDepth x ls N u = leb u (10 * x .h) && (carries x ls N u && cond (carries x ls N (u + 1)) (eqb u (10 * x .h)) true)
 
 module _ (x : Design) (ls : List Layer) (N : ℤ) (u : ℕ) where
-  by-next : (t : Bool) → u ≤ 10 * x .h → carries x ls N u ≡ true → carries x ls N (u + 1) ≡ t → cond t (eqb u (10 * x .h)) true ≡ true → depthUnder ls N x ≡ u
+  by-next : (t : Bool) → u ≤ 10 * x .h → carries x ls N u ≡ true → carries x ls N (u + 1) ≡ t → cond t (eqb u (10 * x .h)) true ≡ true
+      → depthUnder ls N x ≡ u
   by-next false most here next last = sym (greatest-between (carries x ls N) (never-back x ls N) most here next)
   by-next true most here next last =
       let end : u ≡ 10 * x .h = eqb-true u (10 * x .h) last in

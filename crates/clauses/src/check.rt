@@ -71,7 +71,8 @@ fn report_at(
 ) -> Report
     requires { ⌜ Faces x count (layersIn count (now top) (now areas)) (layersIn count (now bottom) (now areas)) steel l ⌝ }
     requires { ⌜ DepthOk x t × DepthOk x b ⌝ }
-    ensures { λ r. ⌜ r ≡ reportAt x l (layersIn count (now (top .entry)) (now (areas .entry))) (layersIn count (now (bottom .entry)) (now (areas .entry))) t b ⌝ }
+    ensures { λ r. ⌜ r ≡ reportAt x l (layersIn count (now (top .entry)) (now (areas .entry))) (layersIn count (now (bottom .entry)) (now (areas .entry)))
+        t b ⌝ }
 {
     let of_top = moment_resistance(x, count, top, areas, t);
     let of_bottom = moment_resistance(x, count, bottom, areas, b);
@@ -120,7 +121,8 @@ fn check_faces(
 ) -> Checked
     requires { ⌜ Faces x count (layersIn count (now top) (now areas)) (layersIn count (now bottom) (now areas)) steel l ⌝ }
     requires { ⌜ carriesAtOne x steel (l .n) ≡ true ⌝ }
-    ensures { λ r. ⌜ r ≡ checkFaces x (layersIn count (now (top .entry)) (now (areas .entry))) (layersIn count (now (bottom .entry)) (now (areas .entry))) l ⌝ }
+    ensures { λ r. ⌜ r ≡ checkFaces x (layersIn count (now (top .entry)) (now (areas .entry))) (layersIn count (now (bottom .entry)) (now (areas .entry)))
+        l ⌝ }
 {
     match search::depth_above_one(x, count, top, areas, steel, l.n) {
         Depth::Refused(k) => Checked::Refused(k),
@@ -141,7 +143,8 @@ pub fn check_accepted(
 ) -> Checked
     requires { ⌜ Usable x count (layersIn count (now depths) (now areas)) ⌝ }
     requires { ⌜ LoadOk l × (length (now depths) ≡ 16) ⌝ }
-    ensures { λ r. ⌜ r ≡ checkFaces x (layersIn count (now (depths .entry)) (now (areas .entry))) (turned (x .h) (layersIn count (now (depths .entry)) (now (areas .entry)))) l ⌝ }
+    ensures { λ r. ⌜ r ≡ checkFaces x (layersIn count (now (depths .entry)) (now (areas .entry)))
+        (turned (x .h) (layersIn count (now (depths .entry)) (now (areas .entry)))) l ⌝ }
 {
     let steel = columns::steel_area(count, areas);
     if !search::carries_at_one(x, steel, l.n) {

@@ -85,7 +85,8 @@ counted-in s places n e = (λ i. layersIn (s .count) (e .0 i) (e .1 i)) ∙ apar
 pub in-columns : (s : Section) {w h : ℤ} {ds bs : List ℕ} → length (s .layers) ≡ 16 → w ≡ s .width → h ≡ s .height
     → (ds ≡ map (λ l. l .depth) (s .layers)) × (bs ≡ map (λ l. l .area) (s .layers)) → inColumns w h (s .grade) (s .count) ds bs ≡ counted s
 in-columns s {ds} {bs} places w h e =
-    let all : layersIn 16 ds bs ≡ s .layers = (λ i. layersIn 16 (e .0 i) (e .1 i)) ∙ apart (s .layers) 16 (omega arith) ∙ take-all 16 (s .layers) (omega arith) in
+    let all : layersIn 16 ds bs ≡ s .layers = (λ i. layersIn 16 (e .0 i) (e .1 i)) ∙ apart (s .layers) 16 (omega arith)
+    ∙ take-all 16 (s .layers) (omega arith) in
     λ i. record { width = w i; height = h i; grade = s .grade; count = s .count; layers = take (s .count) (all i) }
 
 -- ---- turned over

@@ -30,7 +30,8 @@ module _ (c : tie.After-accept) where
   answer-is =
       let s = start .args .s in
       c .accept .ensures .0 ∙ ap accepted (in-columns s (simp length-map at (start .good .0 .1 .1 .0 .1 .0 .1))
-      (field (s .width) (c .before .before .struct-told .given .1 .0 .1)) (field (s .height) (c .before .struct-told2 .given .1 .1 .0 .1)) (apart .take-apart .ensures))
+      (field (s .width) (c .before .before .struct-told .given .1 .0 .1)) (field (s .height) (c .before .struct-told2 .given .1 .1 .0 .1))
+      (apart .take-apart .ensures))
 
 -- an accepted section, in columns
 module _ (c : tie.After-x) where
@@ -45,7 +46,8 @@ module _ (c : tie.After-x) where
 
   layers-are : layersIn (start asked .args .s .count) (apart asked .take-apart .last .1 .0) (apart asked .take-apart .last .1 .1 .0)
       ≡ layersOf (start asked .args .s)
-  layers-are = counted-in (start asked .args .s) (simp length-map at (start asked .good .0 .1 .1 .0 .1 .0 .1)) (usable .count-high) (apart asked .take-apart .ensures)
+  layers-are = counted-in (start asked .args .s) (simp length-map at (start asked .good .0 .1 .1 .0 .1 .0 .1)) (usable .count-high)
+      (apart asked .take-apart .ensures)
 
 load-is : (c : tie.After-force-ok) → c .force-ok .result ≡ forceOk (start (asked (c .before .before)) .args .n)
 load-is c = c .force-ok .ensures ∙ ap forceOk (toZ-ofZ (start (asked (c .before .before)) .fits .n))

@@ -35,7 +35,8 @@ module _ (c : tie.After-accept) where
 
   answer-is : c .accept .result ≡ accepted (counted s)
   answer-is = c .accept .ensures .0 ∙ ap accepted (in-columns s (simp length-map at (start .good .0 .1 .1 .0 .1 .0 .1))
-      (field (s .width) (c .before .before .struct-told .given .1 .0 .1)) (field (s .height) (c .before .struct-told2 .given .1 .1 .0 .1)) (apart .take-apart .ensures))
+      (field (s .width) (c .before .before .struct-told .given .1 .0 .1)) (field (s .height) (c .before .struct-told2 .given .1 .1 .0 .1))
+      (apart .take-apart .ensures))
 
 -- an accepted section, in columns
 module _ (c : tie.After-x) where

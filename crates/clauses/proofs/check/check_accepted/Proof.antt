@@ -34,7 +34,8 @@ tested : (c : tie.After-carries-at-one)
     → (let a = c .before .before in c .carries-at-one .result ≡ carriesAtOne (a .before .args .x) (a .steel-area .result) (a .before .args .l .n))
 tested c =
     let a = c .before .before in
-    c .carries-at-one .ensures ∙ ap (carriesAtOne (a .before .args .x) (a .steel-area .result)) (field (a .before .args .l .n) (c .before .struct-told .given .0 .1))
+    c .carries-at-one .ensures
+    ∙ ap (carriesAtOne (a .before .args .x) (a .steel-area .result)) (field (a .before .args .l .n) (c .before .struct-told .given .0 .1))
 
 -- the bottom sees the layers turned over
 module _ (c : tie.After-turn-over) where

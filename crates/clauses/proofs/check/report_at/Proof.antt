@@ -40,7 +40,8 @@ module _ (c : tie.After-moment-verdict) where
   bottom-is = result (low .moment-resistance2 .ok) (low .moment-resistance2 .ensures)
 
   moment-is : c .moment-verdict .result
-      ≡ first (start .args .l .m) (momentResistance (start .args .x) (tops start) (start .args .t)) (momentResistance (start .args .x) (bottoms start) (start .args .b))
+      ≡ first (start .args .l .m) (momentResistance (start .args .x) (tops start) (start .args .t))
+      (momentResistance (start .args .x) (bottoms start) (start .args .b))
   moment-is = c .moment-verdict .ensures ∙ (λ i. first (field (start .args .l .m) (c .before .struct-told .given .1 .0 .1) i) (top-is i) (bottom-is i))
 
 moment-resistance-requires : tie.Need-moment-resistance-requires

@@ -29,30 +29,38 @@ count-high : (c : tie.After-layer-tests) → leb (c .before .before .before .arg
 count-high c = le-leb _ 16 (c .before .if2 .left)
 
 -- what passes of the counted layers passes of so many of the sixteen places
-module _ (p : Layer → Bool) (c : tie.After-layer-tests) where
+module _ (c : tie.After-layer-tests) where
   abbrev start : tie.Start
   start = c .before .before .before
 
-  of-places : {t : Bool} → t ≡ all p (layersIn (start .args .count) (start .args .depths .now) (start .args .areas .now))
+  of-places : (p : Layer → Bool) {t : Bool} → t ≡ all p (layersIn (start .args .count) (start .args .depths .now) (start .args .areas .now))
       → t ≡ all p (take (start .args .count) (layersIn 16 (start .args .depths .now) (start .args .areas .now)))
-  of-places e = e ∙ ap (all p) (sym (take-in (start .args .depths .now) (start .args .areas .now) (c .before .if2 .left)))
+  of-places p e = e ∙ ap (all p) (sym (take-in (start .args .depths .now) (start .args .areas .now) (c .before .if2 .left)))
+
+depths-are : (c : tie.After-layer-tests) → (let s = start c in
+    c .layer-tests .result .depths ≡ all (depthOk (s .args .h)) (take (s .args .count) (layersIn 16 (s .args .depths .now) (s .args .areas .now))))
+depths-are c = of-places c (depthOk (start c .args .h)) (c .layer-tests .ensures .0)
+
+areas-are : (c : tie.After-layer-tests) → (let s = start c in
+    c .layer-tests .result .areas ≡ all areaOk (take (s .args .count) (layersIn 16 (s .args .depths .now) (s .args .areas .now))))
+areas-are c = of-places c areaOk (c .layer-tests .ensures .1)
 
 returns-3 : tie.Need-returns-3
 returns-3 c =
     let t = c .before .before in
-    simp (count-low t, count-high t, failed (of-places (depthOk _) t (t .layer-tests .ensures .0)) (c .if3 .taken))
+    simp (count-low t, count-high t, failed (depths-are t) (c .if3 .taken))
 
 returns-4 : tie.Need-returns-4
 returns-4 c =
     let d = c .before .before in
     let t = d .before .before in
-    simp (count-low t, count-high t, passed (of-places (depthOk _) t (t .layer-tests .ensures .0)) (d .if3 .left), failed (of-places areaOk t (t .layer-tests .ensures .1)) (c .if4 .taken))
+    simp (count-low t, count-high t, passed (depths-are t) (d .if3 .left), failed (areas-are t) (c .if4 .taken))
 
 returns-5 : tie.Need-returns-5
 returns-5 c =
     let d = c .before .before in
     let t = d .before .before in
-    simp (count-low t, count-high t, passed (of-places (depthOk _) t (t .layer-tests .ensures .0)) (d .if3 .left), passed (of-places areaOk t (t .layer-tests .ensures .1)) (c .if4 .left))
+    simp (count-low t, count-high t, passed (depths-are t) (d .if3 .left), passed (areas-are t) (c .if4 .left))
 
 pub layer-refusal-spec : {M : Type 1} → statement M
 layer-refusal-spec =

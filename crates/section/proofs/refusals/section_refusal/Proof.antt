@@ -22,7 +22,8 @@ module _ (c : tie.After-accept) where
   answer-is =
       let s = start .args .s in
       c .accept .ensures .0 ∙ ap accepted (in-columns s (simp length-map at (start .good .0 .1 .1 .0 .1 .0 .1))
-      (field (s .width) (c .before .before .struct-told .given .1 .0 .1)) (field (s .height) (c .before .struct-told2 .given .1 .1 .0 .1)) (apart .take-apart .ensures))
+      (field (s .width) (c .before .before .struct-told .given .1 .0 .1)) (field (s .height) (c .before .struct-told2 .given .1 .1 .0 .1))
+      (apart .take-apart .ensures))
 
 take-apart-requires : tie.Need-take-apart-requires
 take-apart-requires c κs = search needs
