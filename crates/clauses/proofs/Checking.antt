@@ -139,10 +139,6 @@ module _ (s : Section) (load : Load) where
 
   -- ---- accuracy: of each face, from the promise of its depth
 
-  abbrev Both : Design → Checked → Type 0
-  Both x (Done r) = AccurateFaces x (layersOf s) load r
-  Both x (Refused k) = Unit {0}
-
   of-report : (x : Design) (t b : ℕ) → Accurate x (layersOf s) (load .n) t (momentResistance x (layersOf s) t)
       → Accurate x (turned (x .h) (layersOf s)) (load .n) b (momentResistance x (turned (x .h) (layersOf s)) b)
       → AccurateFaces x (layersOf s) load (reportAt x load (layersOf s) (turned (x .h) (layersOf s)) t b)
@@ -158,15 +154,11 @@ module _ (s : Section) (load : Load) where
       }
 
   from-depths : (x : Design) (dt db : Depth) → PromisedDepth x (layersOf s) (load .n) dt → PromisedDepth x (turned (x .h) (layersOf s)) (load .n) db
-      → Both x (by-depths x (layersOf s) (turned (x .h) (layersOf s)) load dt db)
+      → AccurateReport (layersOf s) load (section.Ready x) (by-depths x (layersOf s) (turned (x .h) (layersOf s)) load dt db)
   unfolding by-depths
   from-depths x (depth.Refused k) db p q = tt
   from-depths x (depth.At t) (depth.Refused k) p q = tt
   from-depths x (depth.At t) (depth.At b) p q = of-report x t b (p .accurate) (q .accurate)
-
-  whole : (x : Design) (r : Checked) → Both x r → AccurateReport (layersOf s) load (section.Ready x) r
-  whole x (Done r) h = h
-  whole x (Refused k) h = tt
 
   accurate-under : {x : Design} (k : ℕ) → k ≡ firstFailing (loadTests load) → accepted (counted s) ≡ section.Ready x
       → AccurateReport (layersOf s) load (section.Ready x) (checkOf s load)
@@ -175,8 +167,7 @@ module _ (s : Section) (load : Load) where
       let w = usable-by s e in
       let both = from-depths x (depthFor x ls (load .n)) (depthFor x (turned (x .h) ls) (load .n)) (depth-promise (load .n) w)
       (depth-promise (load .n) (usable-turned ls w)) in
-      rw (← load-passed e (sym none)) (whole x (checkFaces x ls (turned (x .h) ls) load)
-      (rw (← faces-by-depths x ls (turned (x .h) ls) load (one-turned ls (load .n) w)) both))
+      rw (← load-passed e (sym none)) (rw (← faces-by-depths x ls (turned (x .h) ls) load (one-turned ls (load .n) w)) both)
   accurate-under (suc k) some e = rw (← load-refused (suc k) e some (λ z. omega arith)) tt
 
   accurate-for : (a : Accepted) → accepted (counted s) ≡ a → AccurateReport (layersOf s) load a (checkOf s load)

@@ -1,7 +1,9 @@
 -- The accuracy statement, demand 3 of document 01 and 02's ticket 1, of Check. Assumes nothing.
+use mathlib.Core.Bool.{cond}
 use mathlib.Core.List.{List}
 use mathlib.Core.Path.{_≡_}
-use lib.IntN.{ℤ}
+use lib.IntN.{ℤ, pos}
+use lib.Signed.{leZ}
 use Rattle.section.specs.declared.Layer.{Layer}
 use Rattle.section.specs.declared.Section.{Section}
 use Rattle.section.specs.declared.Load.{Load}
@@ -16,15 +18,18 @@ use Rattle.clauses.specs.declared.Face.{Face}
 use Rattle.clauses.specs.declared.Report.{Report}
 use Rattle.clauses.specs.declared.Checked.{Checked}
 use Rattle.clauses.specs.declared.Checked.the-variants.{Done, Refused}
-use Rattle.clauses.specs.Check.{ofCompressed, ofOther}
 use Rattle.clauses.specs.Verdicts.{numberOf, first}
 
--- the two faces of a report: for M ≥ 0 the top is the one compressed, for M < 0 the other
+-- the face that a report shows
+abbrev pub shown : Report → Face
+shown r = record { u = r .u; mrd = r .mrd }
+
+-- its top and its bottom: for M ≥ 0 the top is shown and the bottom is the other face, for M < 0 it is the other way round
 abbrev pub topOf : ℤ → Report → Face
-topOf M r = ofCompressed M (record { u = r .u; mrd = r .mrd }) (r .other)
+topOf M r = cond (leZ (pos 0) M) (shown r) (r .other)
 
 abbrev pub bottomOf : ℤ → Report → Face
-bottomOf M r = ofOther M (record { u = r .u; mrd = r .mrd }) (r .other)
+bottomOf M r = cond (leZ (pos 0) M) (r .other) (shown r)
 
 -- The depth of each face is accurate, with the resistance that verdict one takes for it.
 pub record AccurateFaces (x : Design) (ls : List Layer) (load : Load) (r : Report) : Type 0 where

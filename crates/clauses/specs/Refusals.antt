@@ -1,6 +1,6 @@
 -- When Check is turned down: document 01, and 02's ticket 1 on 12. Its sequence of tests is a list, in 01's order; the first that fails
 -- gives the refusal. The section tests and the load tests stand on the page `Refusals` of the section. Assumes nothing.
-use Prim.Native.Nat.{ℕ, _*_}
+use Prim.Native.Nat.{ℕ}
 use mathlib.Core.Bool.{_&&_}
 use mathlib.Core.List.{List, [], _∷_, _++_}
 use lib.IntN.{ℤ}
@@ -18,7 +18,7 @@ use Rattle.equilibrium.specs.Refusals.{carries, reaches}
 -- what N asks of both faces, whose layers are `top` and `bottom` as each face sees them
 abbrev pub facesTests : Design → List Layer → List Layer → ℤ → List ℕ
 facesTests x top bottom N =
-    -- 11 N below the internal force at depth 1, which is the same for both
+    -- 11 N below the internal force at depth 1, which is the same for both (`one-turned`)
     test 11 (carries x top N 1)
     -- 12 N above the internal force at depth 10h of either
     ∷ test 12 (reaches x top N && reaches x bottom N)

@@ -1,4 +1,4 @@
-// Check: depth, resistances and verdicts of both faces. Document 01, "Verdicts".
+// Check: depths and moment resistances of both faces, and the verdicts. Document 01, "Verdicts", and 02's ticket 1.
 use super::Checked;
 use super::Face;
 use super::Report;
@@ -20,7 +20,7 @@ ghost use Rattle.section.specs.Code.Usable.{Usable, LoadOk};
 ghost use Rattle.section.specs.Code.Columns.{layersIn, areaSum};
 ghost use Rattle.section.specs.Turned.{turned};
 ghost use Rattle.equilibrium.specs.Code.Whole.{DepthOk, carriesAtOne};
-ghost use Rattle.clauses.specs.Check.{reportOf, reportAt, checkFaces};
+ghost use Rattle.clauses.specs.Check.{faceAt, reportOf, reportAt, checkFaces};
 ghost use Rattle.clauses.specs.Code.Ranges.{Faces};
 
 // What is reported of the face that M compresses, beside the other face and verdict one.
@@ -57,6 +57,17 @@ fn report_of(
     }
 }
 
+// A face at the depth u.
+fn face_at(x: Design, count: usize, depths: &[u32; 16], areas: &[u32; 16], u: u64) -> Face
+    requires { ⌜ Usable x count (layersIn count (now depths) (now areas)) × DepthOk x u ⌝ }
+    ensures { λ r. ⌜ r ≡ faceAt x (layersIn count (now (depths .entry)) (now (areas .entry))) u ⌝ }
+{
+    Face {
+        u: u,
+        mrd: moment_resistance(x, count, depths, areas, u),
+    }
+}
+
 // What is reported at the depths t from the top and b from the bottom.
 fn report_at(
     x: Design,
@@ -74,38 +85,13 @@ fn report_at(
     ensures { λ r. ⌜ r ≡ reportAt x l (layersIn count (now (top .entry)) (now (areas .entry))) (layersIn count (now (bottom .entry)) (now (areas .entry)))
         t b ⌝ }
 {
-    let of_top = moment_resistance(x, count, top, areas, t);
-    let of_bottom = moment_resistance(x, count, bottom, areas, b);
-    let moment = verdicts::moment_verdict(l.m, of_top, of_bottom);
-    let top_face = Face { u: t, mrd: of_top };
-    let bottom_face = Face {
-        u: b,
-        mrd: of_bottom,
-    };
+    let high = face_at(x, count, top, areas, t);
+    let low = face_at(x, count, bottom, areas, b);
+    let moment = verdicts::moment_verdict(l.m, high.mrd, low.mrd);
     if 0 <= l.m {
-        report_of(
-            x,
-            count,
-            top,
-            areas,
-            steel,
-            l,
-            top_face,
-            bottom_face,
-            moment,
-        )
+        report_of(x, count, top, areas, steel, l, high, low, moment)
     } else {
-        report_of(
-            x,
-            count,
-            bottom,
-            areas,
-            steel,
-            l,
-            bottom_face,
-            top_face,
-            moment,
-        )
+        report_of(x, count, bottom, areas, steel, l, low, high, moment)
     }
 }
 

@@ -23,7 +23,7 @@ fn judge_tension(area: u64, passes: bool) -> Verdict
     }
 }
 
-// One, 6.1: M lies between the resistances of both faces. M is negated and not a resistance: its range is known here.
+// One, 6.1: −MRd of the bottom ≤ M ≤ MRd of the top. M is negated and not a resistance: its range is known here.
 pub fn moment_verdict(m: i64, top: i64, bottom: i64) -> Verdict
     requires { ⌜ Within m 1000000000000 ⌝ }
     ensures { λ r. ⌜ r ≡ first m top bottom ⌝ }

@@ -58,14 +58,17 @@ module _ {x : Design} {n : ℕ} (ls : List Layer) (N : ℤ) (w : Usable x n ls) 
   under-one h = carries-is x ls N (omega arith) ∙ true-le (excess x ls N 1) (pos 0) (le! here (# (pos 0)) (omega (arith, le? (# concrete) (# rest) h, no-lift)))
 
   -- 11 is that comparison
-  pub one-is : carries x ls N 1 ≡ carriesAtOne x (areaSum ls) N
+  one-is : carries x ls N 1 ≡ carriesAtOne x (areaSum ls) N
   one-is = go (leZ concrete rest) refl
     where
       go : (t : Bool) → leZ concrete rest ≡ t → carries x ls N 1 ≡ t
       go true h = under-one (le-true concrete rest h)
       go false h = over-one (le-false concrete rest h)
 
+-- of the area that the code has summed
+pub one-by : {x : Design} {n steel : ℕ} (ls : List Layer) (N : ℤ) → Usable x n ls → steel ≡ areaSum ls → carries x ls N 1 ≡ carriesAtOne x steel N
+one-by {x} ls N w e = one-is ls N w ∙ ap (λ (a : ℕ). carriesAtOne x a N) (sym e)
+
 -- the same for both faces
 pub one-turned : {x : Design} {n : ℕ} (ls : List Layer) (N : ℤ) → Usable x n ls → carries x (turned (x .h) ls) N 1 ≡ carries x ls N 1
-one-turned {x} ls N w =
-    one-is (turned (x .h) ls) N (usable-turned ls w) ∙ ap (λ (a : ℕ). carriesAtOne x a N) (area-turned (x .h) ls) ∙ sym (one-is ls N w)
+one-turned {x} ls N w = one-by (turned (x .h) ls) N (usable-turned ls w) (sym (area-turned (x .h) ls)) ∙ sym (one-is ls N w)

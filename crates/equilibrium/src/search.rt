@@ -203,12 +203,12 @@ pub fn depth_above_one(
     ensures { λ r. ⌜ r ≡ depthFor x (layersIn count (now (depths .entry)) (now (areas .entry))) n ⌝ }
     ensures promised { λ r. ⌜ PromisedDepth x (layersIn count (now (depths .entry)) (now (areas .entry))) n r ⌝ }
 {
-    let top = 10 * x.h;
+    let most = 10 * x.h;
     let u = by_pairs(x, count, depths, areas, steel, n);
-    if u < top {
+    if u < most {
         return Depth::At(u);
     }
-    let p = excesses(x, count, depths, areas, steel, n, top - 1);
+    let p = excesses(x, count, depths, areas, steel, n, most - 1);
     if p.next < 0 {
         return Depth::Refused(12);
     }

@@ -1,5 +1,5 @@
 -- When Read a record and Write a record are turned down: document 01. The sequence of each is a list of tests, in 01's order; the first
--- that fails gives the refusal. The section tests and the load tests stand on the page `Refusals` of the equilibrium. Assumes nothing.
+-- that fails gives the refusal. The section tests and the load tests stand on the page `Refusals` of the section. Assumes nothing.
 use Prim.Native.Nat.{ℕ}
 use mathlib.Core.Bool.{Bool, not}
 use mathlib.Core.List.{List, [], _∷_, _++_}

@@ -1,4 +1,5 @@
--- The section turned over, for M < 0: every d becomes h − d. Assumes nothing.
+-- The section turned over, as its bottom face sees it: every d becomes h − d (document 01, for M < 0; 02's ticket 1, for both faces).
+-- Assumes nothing.
 use Prim.Native.Nat.{ℕ, _-_}
 use mathlib.Core.List.{List, [], _∷_}
 use Rattle.section.specs.declared.Layer.{Layer}

@@ -13,8 +13,7 @@ use Rattle.equilibrium.specs.Refusals.{carries}
 use Rattle.equilibrium.specs.Depth.{depthFor}
 use Rattle.equilibrium.specs.Accuracy.{PromisedDepth}
 use Rattle.equilibrium.specs.Code.Whole.{carriesAtOne, Trial}
-use Rattle.equilibrium.proofs.DepthOne.{one-is}
-use Rattle.equilibrium.proofs.Found.{depth-promise}
+use Rattle.equilibrium.proofs.DepthOne.{one-by}
 use Rattle.clauses.specs.declared.Checked.the-variants.{Done}
 use Rattle.clauses.proofs.Checking.{top-refused, bottom-refused, both-at}
 use Rattle.clauses.proofs.check.check_faces.Statement.{statement}
@@ -29,9 +28,8 @@ module _ (s : tie.Start) where
 
   -- depth 1 is the same for both
   same : carries (s .args .x) bottoms (s .args .l .n) 1 ≡ carries (s .args .x) tops (s .args .l .n) 1
-  same = one-is bottoms (s .args .l .n) (s .pre .0 .of-bottom .usable)
-      ∙ ap (λ (a : ℕ). carriesAtOne (s .args .x) a (s .args .l .n)) (sym (s .pre .0 .of-bottom .area) ∙ s .pre .0 .of-top .area)
-      ∙ sym (one-is tops (s .args .l .n) (s .pre .0 .of-top .usable))
+  same = one-by bottoms (s .args .l .n) (s .pre .0 .of-bottom .usable) (s .pre .0 .of-bottom .area)
+      ∙ sym (one-by tops (s .args .l .n) (s .pre .0 .of-top .usable) (s .pre .0 .of-top .area))
 
 -- the load, as it is read for each search
 module _ (c : tie.After-depth-above-one) where
@@ -90,11 +88,10 @@ enum-known-b c = search needs
 
 report-at-requires : tie.Need-report-at-requires
 report-at-requires c κs =
-    let d = c .before .before .before in
-    let s = start (first d) in
-    let n = s .args .l .n in
-    let top = subst (PromisedDepth (s .args .x) (tops s) n) (top-at d) (depth-promise n (s .pre .0 .of-top .usable)) in
-    let bottom = subst (PromisedDepth (s .args .x) (bottoms s) n) (bottom-at (c .before)) (depth-promise n (s .pre .0 .of-bottom .usable)) in
+    let second = c .before .before .before in
+    let s = start (first second) in
+    let top = subst (PromisedDepth (s .args .x) (tops s) _) (c .before .before .before .before .before .before .t .given .1) (first second .depth-above-one .ensures .1) in
+    let bottom = subst (PromisedDepth (s .args .x) (bottoms s) _) (c .before .b .given .1) (second .depth-above-one2 .ensures .1) in
     (s .pre .0, (top .depth, bottom .depth))
 
 returns : tie.Need-returns

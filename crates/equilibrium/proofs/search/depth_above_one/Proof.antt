@@ -2,7 +2,7 @@
 use Prim.Native.Nat.{ℕ, _+_, _-_, _*_, _≤_}
 use mathlib.Core.Bool.{true}
 use mathlib.Core.List.{List}
-use mathlib.Core.Path.{_≡_, sym, ap, _∙_}
+use mathlib.Core.Path.{_≡_, ap, _∙_}
 use native.Mathlib.Omega.{arith}
 use borrow.Author.Needs.{needs}
 use lib.IntN.{ℤ}
@@ -15,9 +15,9 @@ use Rattle.section.specs.declared.Layer.{Layer}
 use Rattle.section.specs.Code.Columns.{layersIn}
 use Rattle.equilibrium.specs.Refusals.{carries}
 use Rattle.equilibrium.specs.Depth.{depthFor}
-use Rattle.equilibrium.specs.Code.Whole.{carriesAtOne, excess}
+use Rattle.equilibrium.specs.Code.Whole.{excess}
 use Rattle.equilibrium.proofs.Found.{depth-clauses}
-use Rattle.equilibrium.proofs.DepthOne.{one-is}
+use Rattle.equilibrium.proofs.DepthOne.{one-by}
 use Rattle.equilibrium.proofs.Trials.{top-short, top-reached, below-top}
 use Rattle.equilibrium.proofs.search.depth_above_one.Statement.{statement}
 use Rattle.equilibrium.proofs.search.depth_above_one.Tie as tie
@@ -31,7 +31,7 @@ module _ (s : tie.Start) where
 
   -- 1 carries
   carried : carries (s .args .x) ls (s .args .n) 1 ≡ true
-  carried = one-is ls (s .args .n) (s .pre .0 .usable) ∙ ap (λ (a : ℕ). carriesAtOne (s .args .x) a (s .args .n)) (sym (s .pre .0 .area)) ∙ s .pre .1
+  carried = one-by ls (s .args .n) (s .pre .0 .usable) (s .pre .0 .area) ∙ s .pre .1
 
 found : (c : tie.After-by-pairs)
     → (let s = c .before .before in c .by-pairs .result ≡ greatest (carries (s .args .x) (ls s) (s .args .n)) (10 * s .args .x .h))
@@ -46,8 +46,8 @@ top-read c =
     let e : 10 * s .args .x .h - 1 + 1 ≡ 10 * s .args .x .h = omega (arith, s .pre .0 .usable .bounded .h-low) in
     field _ (c .struct-told .given .1 .0 .1) ∙ c .before .before .excesses .ensures .1 ∙ (λ i. excess (s .args .x) (ls s) (toZ-ofZ (s .fits .n) i) (e i))
 
-mul-top : tie.Need-mul-top
-mul-top c = search needs
+mul-most : tie.Need-mul-most
+mul-most c = search needs
 
 by-pairs-requires : tie.Need-by-pairs-requires
 by-pairs-requires c κs = let s = c .before in (rw (toZ-ofZ (s .fits .n)) (s .pre .0), rw (toZ-ofZ (s .fits .n)) (carried s))
@@ -88,7 +88,7 @@ pub depth-above-one-spec : {M : Type 1} → statement M
 depth-above-one-spec =
     tie.close
     (tie.spec
-    mul-top
+    mul-most
     by-pairs-requires
     returns
     sub-excesses

@@ -1,10 +1,8 @@
 -- `equilibrium::search::depth_for` meets its contract: 11 by one comparison, and what the search answers. Assumes nothing.
-use Prim.Native.Nat.{ℕ}
 use mathlib.Core.Bool.{false}
 use mathlib.Core.List.{List}
-use mathlib.Core.Path.{_≡_, sym, ap, _∙_}
+use mathlib.Core.Path.{_≡_, ap, _∙_}
 use native.Mathlib.Omega.{arith}
-use borrow.Author.Needs.{needs}
 use mir.Facts.{toZ-ofZ}
 use Rattle.arith.proofs.Test.{failed, passed}
 use Rattle.section.specs.declared.Layer.{Layer}
@@ -14,7 +12,7 @@ use Rattle.equilibrium.specs.Depth.{depthFor}
 use Rattle.equilibrium.specs.Code.Whole.{carriesAtOne}
 use Rattle.equilibrium.proofs.Found.{depth-clauses}
 use Rattle.equilibrium.proofs.Sizes.{area-high}
-use Rattle.equilibrium.proofs.DepthOne.{one-is}
+use Rattle.equilibrium.proofs.DepthOne.{one-by}
 use Rattle.equilibrium.proofs.search.depth_for.Statement.{statement}
 use Rattle.equilibrium.proofs.search.depth_for.Tie as tie
 
@@ -32,8 +30,8 @@ returns : tie.Need-returns
 unfolding depthFor
 returns c =
     let s = c .before .before in
-    let short : carries (s .args .x) (ls s) (s .args .n) 1 ≡ false = one-is (ls s) (s .args .n) (s .pre .usable)
-    ∙ ap (λ (a : ℕ). carriesAtOne (s .args .x) a (s .args .n)) (sym (s .pre .area)) ∙ failed (tested (c .before)) (c .if1 .taken) in
+    let short : carries (s .args .x) (ls s) (s .args .n) 1 ≡ false = one-by (ls s) (s .args .n) (s .pre .usable) (s .pre .area)
+    ∙ failed (tested (c .before)) (c .if1 .taken) in
     depth-clauses (s .args .n) (s .pre .usable) (rw short)
 
 depth-above-one-requires : tie.Need-depth-above-one-requires
