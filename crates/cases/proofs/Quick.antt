@@ -1,5 +1,5 @@
 -- A row of Check names the depths of both faces: so each is tried there and at the next tenth, and not at every depth of the range, which
--- would take the computed test some thousand trials a row. Assumes nothing.
+-- would take the computed test some ten thousand trials a row. Assumes nothing.
 use Prim.Native.Nat.{ℕ, _+_, _*_, _≤_}
 use mathlib.Core.Bool.{Bool, true, false, _&&_, cond}
 use mathlib.Core.List.{List, [], _∷_}

@@ -37,6 +37,8 @@ pub data Case : Type 0 where
   tests : Section → ℕ → Case
   -- a section and a depth u; then the internal force there
   force : Section → ℕ → ℤ → Case
+  -- the same for the section turned over
+  turnedForce : Section → ℕ → ℤ → Case
   -- Find a depth: a section and N; then the refusal and u
   found : Section → ℤ → ℕ → ℕ → Case
   -- Moment at a depth: a section and u; then the refusal and the moment
@@ -69,6 +71,10 @@ abbrev forceIs : List Layer → Accepted → ℕ → ℤ → Bool
 forceIs ls (section.Ready x) u z = isSame (internalForce x ls (at u)) (integer z)
 forceIs ls (section.Refused k) u z = false
 
+abbrev turnedForceIs : List Layer → Accepted → ℕ → ℤ → Bool
+turnedForceIs ls (section.Ready x) u z = forceIs (turned (x .h) ls) (section.Ready x) u z
+turnedForceIs ls (section.Refused k) u z = false
+
 abbrev turnedGives : List Layer → Accepted → ℕ → ℤ → Bool
 turnedGives ls (section.Ready x) u z = sameℤ (steelResistance x (turned (x .h) ls) u) z
 turnedGives ls (section.Refused k) u z = false
@@ -95,6 +101,7 @@ holds (material grade m) = isMaterial (materialsOf grade) m
 holds (noMaterial grade k) = isRefused (materialsOf grade) k
 holds (tests s k) = eqb (sections.refusalNumber (sections.accepted (counted s))) k
 holds (force s u z) = forceIs (layersOf s) (sections.accepted (counted s)) u z
+holds (turnedForce s u z) = turnedForceIs (layersOf s) (sections.accepted (counted s)) u z
 holds (found s N k u) = eqb (depth.refusalNumber (depth.findDepth s N)) k && eqb (depth.depthFound (depth.findDepth s N)) u
 holds (resists s u k m) = eqb (moment.refusalNumber (moment.momentAt s u)) k && sameℤ (moment.momentFound (moment.momentAt s u)) m
 holds (turnedSteel s u z) = turnedGives (layersOf s) (sections.accepted (counted s)) u z

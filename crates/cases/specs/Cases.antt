@@ -1,21 +1,20 @@
--- Worked cases; that they hold, one computed test over the definitions, is `cases-hold` of the proofs. Every case of document 01 that is
--- marked (P) has its rows here, in 01's order. Beside them stand the example of 01's list, the refusals 11 and 12 also as Check gives them, every class of the
--- table with the letters that follow from it, and both ends of the steel's range with what lies beyond; at the end, the cases of 02's
--- request 1, with numbers of the paper or of the second implementation. Assumes nothing.
+-- Worked cases; that they hold, one computed test over the definitions, is `cases-hold` and `checks-hold` of the proofs. Every case of
+-- document 01 that is marked (P) has its rows here, in 01's order, those of Check in a list of their own. Beside them stand the example of
+-- 01's list, the refusals 11 and 12 also as Check gives them, every class of the table with the letters that follow from it, and both
+-- ends of the steel's range with what lies beyond; at the end, the cases of 02's request 1, with numbers of the paper or of the second
+-- implementation. Assumes nothing.
 use Prim.Native.Nat.{ℕ}
 use mathlib.Core.List.{List, [], _∷_}
 use lib.IntN.{ℤ, pos, negℤ}
 use lib.ListN.{replicate}
 use Rattle.materials.specs.declared.Grade.{Grade}
-use Rattle.materials.specs.Strength.{f, g, s}
 use Rattle.section.specs.declared.Section.{Section}
 use Rattle.section.specs.declared.Load.{Load}
 use Rattle.section.specs.Section.{noLayer}
-use Rattle.shear.specs.Shear.{v}
 use Rattle.clauses.specs.declared.Face.{Face}
 use Rattle.clauses.specs.declared.Listed.{Listed}
 use Rattle.clauses.specs.Check.{refusedListed}
-use Rattle.cases.specs.Case.{Case, Case.material, Case.noMaterial, Case.tests, Case.force, Case.found, Case.resists, Case.turnedSteel}
+use Rattle.cases.specs.Case.{Case, Case.material, Case.noMaterial, Case.tests, Case.force, Case.turnedForce, Case.found, Case.resists, Case.turnedSteel}
 use Rattle.cases.specs.Case.{Case.sizeFactor, Case.shearNumbers, CheckRow}
 
 -- fck and fyk
@@ -112,6 +111,9 @@ cases =
     ∷ tests (one 300 500 30 499) 0
     -- (P) width 49 with fck 31
     ∷ tests (one 49 500 31 450) 1
+    -- request 1: what either face of A reaches
+    ∷ force A 5000 (pos 2505000)
+    ∷ turnedForce A 5000 (pos 3052170)
     ∷ []
 
 -- the rows of Check
@@ -132,7 +134,7 @@ checkRows =
     ∷ checks A (load (negℤ (pos 651690)) (pos 130314019) (pos 0)) (hanger 1)
     ∷ checks A (load (negℤ (pos 651690)) (pos 130553981) (pos 0)) (hanger 1)
     ∷ checks A (load (negℤ (pos 651690)) (pos 0) (pos 0)) (hanger 1)
-    -- request 1: the bottom reaches up to 3,052,170, and the top does not
+    -- request 1: N that the bottom reaches and the top does not
     ∷ checks A (load (pos 2505001) (negℤ (pos 1)) (pos 0)) (refusedListed 12)
     ∷ checks A (load (pos 3052170) (negℤ (pos 1)) (pos 0)) (refusedListed 12)
     -- request 1: MRd of the top is below −MRd of the bottom, so that no M passes (`none-between`)

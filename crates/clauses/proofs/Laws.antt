@@ -20,14 +20,13 @@ use Rattle.section.specs.Code.Usable.{Usable}
 use Rattle.section.proofs.OneLayer.{layer-low}
 use Rattle.shear.specs.SizeFactor.{K}
 use Rattle.shear.specs.Shear.{rTest, r, qTest, q}
-use Rattle.shear.specs.Code.Ranges.{StressBounds}
 use Rattle.shear.proofs.Roots as roots
 use Rattle.shear.proofs.Roots.{K-high}
-use Rattle.clauses.specs.Tension.{tensionLayers, total, areaOf, firstMoment, meanDepth, As, dm}
+use Rattle.clauses.specs.Tension.{tensionLayers, areaOf, firstMoment, meanDepth, As, dm}
 use Rattle.clauses.specs.declared.Verdict.the-variants.{Fail}
 use Rattle.clauses.specs.Verdicts.{judged, first}
 use Rattle.clauses.specs.Check.{checkOf}
-use Rattle.clauses.proofs.Layers.{total-le, all-tension, mean-is, counts, As-high, dm-high}
+use Rattle.clauses.proofs.Layers.{total-le, all-tension, mean-is, stress-in}
 use Rattle.clauses.proofs.Layers as layers
 
 -- the mean depth of layers whose depths and areas are at least 1 is at least 1
@@ -40,16 +39,11 @@ mean-low h ts e low =
 -- ---- r and q are the greatest of all numbers that pass: of every layers of an accepted section, at every depth with a tension layer
 
 module _ {x : Design} {n : ℕ} (ls : List Layer) (w : Usable x n ls) (u : ℕ) where
-  stress : StressBounds (x .b) (x .m .fck) (As u ls) (dm u ls)
-  stress =
-      let c = counts ls w in
-      record { b-high = w .bounded .b-high; fck-high = w .bounded .materials .fck-high; As-high = As-high ls c u; dm-high = dm-high ls c u }
-
   pub r-greatest : 1 ≤ As u ls → IsGreatest (rTest (x .b) (x .m .fck) (As u ls) (dm u ls)) (r (x .b) (x .m .fck) (As u ls) (dm u ls))
   r-greatest some =
       let mean = mean-low (x .h) (tensionLayers u ls) (all-tension u (depthOk (x .h)) ls (w .depths)) some in
       let b : 1 ≤ x .b = omega (arith, w .bounded .b-low) in
-      roots.r-greatest (x .b) (x .m .fck) (As u ls) (dm u ls) stress (mul-le-mul b mean)
+      roots.r-greatest (x .b) (x .m .fck) (As u ls) (dm u ls) (stress-in ls w u) (mul-le-mul b mean)
 
   pub q-greatest : IsGreatest (qTest (x .m .fck) (K (dm u ls))) (q (x .m .fck) (K (dm u ls)))
   q-greatest = roots.q-greatest (x .m .fck) (K (dm u ls)) (w .bounded .materials .fck-high) (K-high (dm u ls))

@@ -14,6 +14,7 @@ use Rattle.section.specs.Section.{all, depthOk, areaOk}
 use Rattle.section.specs.Code.Usable.{Usable}
 use Rattle.section.specs.Code.Columns.{areaSum}
 use Rattle.section.proofs.OneLayer.{layer-low, layer-high, steel-low, steel-high}
+use Rattle.shear.specs.Code.Ranges.{StressBounds}
 use Rattle.clauses.specs.Tension.{inTension, tensionLayers, total, areaOf, firstMoment, meanDepth, As, dm}
 use Rattle.clauses.specs.Code.Ranges.{Counts}
 
@@ -126,6 +127,12 @@ all-deeper {h} m (l ∷ ls) e =
 
 pub counts : {x : Design} {n : ℕ} (ls : List Layer) → Usable x n ls → Counts n ls
 counts ls w = record { count-high = w .count-high; counted = w .counted; depths = all-deeper (w .bounded .h-high) ls (w .depths); areas = w .areas }
+
+-- what the shear asks of the layers of an accepted section
+pub stress-in : {x : Design} {n : ℕ} (ls : List Layer) → Usable x n ls → (u : ℕ) → StressBounds (x .b) (x .m .fck) (As u ls) (dm u ls)
+stress-in ls w u =
+    let c = counts ls w in
+    record { b-high = w .bounded .b-high; fck-high = w .bounded .materials .fck-high; As-high = As-high ls c u; dm-high = dm-high ls c u }
 
 -- ---- the loop over the layers: zs is what is left of ls
 pub record Summed (u : ℕ) (ls zs : List Layer) (area moment : ℕ) : Type 0 where

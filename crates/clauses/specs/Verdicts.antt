@@ -1,4 +1,5 @@
--- The five verdicts, in document 01's sequence; the first as 02's ticket 1 has it. As is the area of the tension layers and dm their mean depth. Assumes nothing.
+-- The five verdicts, in document 01's sequence; the first as 02's ticket 1 has it. As is the area of the tension layers and dm their mean
+-- depth. Assumes nothing.
 use Prim.Native.Nat.{ℕ, _*_}
 use mathlib.Core.Bool.{Bool, cond, _&&_}
 use lib.Dec.{leb}

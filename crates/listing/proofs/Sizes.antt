@@ -36,7 +36,7 @@ use Rattle.equilibrium.proofs.Sizes.{depth-most, resistance-in}
 use Rattle.equilibrium.proofs.DepthOne.{one-turned}
 use Rattle.equilibrium.proofs.Found.{depth-promise}
 use Rattle.shear.specs.Shear.{Sheared, concreteShare, axialShare, orZero, VRdc}
-use Rattle.shear.specs.Code.Ranges.{StressBounds, ShearBounds}
+use Rattle.shear.specs.Code.Ranges.{ShearBounds}
 use Rattle.shear.specs.Shear as shear
 use Rattle.shear.proofs.Roots.{concrete-high, c-in, axial-in}
 use Rattle.clauses.specs.declared.Face.{Face}
@@ -46,7 +46,7 @@ use Rattle.clauses.specs.declared.Checked.the-variants.{Done}
 use Rattle.clauses.specs.Verdicts.{numberOf, first, second, third, fourth, fifth}
 use Rattle.clauses.specs.Tension.{areaOf, As, dm}
 use Rattle.clauses.specs.Check.{refusedListed, listed, faceAt, reportOf, reportAt, checkFaces, checkOf}
-use Rattle.clauses.proofs.Layers.{counts, As-high, dm-high}
+use Rattle.clauses.proofs.Layers.{counts, As-high, dm-high, stress-in}
 use Rattle.clauses.proofs.Checking.{check-refused, load-refused, load-passed, top-refused, bottom-refused, both-at}
 use Rattle.listing.proofs.Longest.{Fitting}
 
@@ -112,8 +112,7 @@ report-fits {x} ls l face other v w ok d m =
     let b = w .bounded in
     let area = As u ls in
     let mean = dm u ls in
-    let stress : StressBounds (x .b) (x .m .fck) (As u ls) (dm u ls) =
-    record { b-high = b .b-high; fck-high = b .materials .fck-high; As-high = As-high ls n u; dm-high = dm-high ls n u } in
+    let stress = stress-in ls w u in
     record {
       refusal = omega arith;
       u = omega (arith, depth-most b d);

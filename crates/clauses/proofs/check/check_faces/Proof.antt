@@ -2,7 +2,6 @@
 use mathlib.Core.Bool.{true}
 use mathlib.Core.List.{List}
 use mathlib.Core.Path.{_≡_, sym, ap, subst, _∙_}
-use Prim.Native.Nat.{ℕ}
 use lib.IntN.{ℤ}
 use borrow.Author.Needs.{needs}
 use Rattle.arith.proofs.Machine.{field}
@@ -90,7 +89,8 @@ report-at-requires : tie.Need-report-at-requires
 report-at-requires c κs =
     let second = c .before .before .before in
     let s = start (first second) in
-    let top = subst (PromisedDepth (s .args .x) (tops s) _) (c .before .before .before .before .before .before .t .given .1) (first second .depth-above-one .ensures .1) in
+    let t = second .before .before .before in
+    let top = subst (PromisedDepth (s .args .x) (tops s) _) (t .t .given .1) (first second .depth-above-one .ensures .1) in
     let bottom = subst (PromisedDepth (s .args .x) (bottoms s) _) (c .before .b .given .1) (second .depth-above-one2 .ensures .1) in
     (s .pre .0, (top .depth, bottom .depth))
 

@@ -1,5 +1,5 @@
 -- `equilibrium::search::depth_above_one` meets its contract: the depth by the search, and 12 where that ends at 10h. Assumes nothing.
-use Prim.Native.Nat.{ℕ, _+_, _-_, _*_, _≤_}
+use Prim.Native.Nat.{_+_, _-_, _*_, _≤_}
 use mathlib.Core.Bool.{true}
 use mathlib.Core.List.{List}
 use mathlib.Core.Path.{_≡_, ap, _∙_}
