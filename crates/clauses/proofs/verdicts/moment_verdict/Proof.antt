@@ -5,7 +5,9 @@ use native.Mathlib.Omega.{arith}
 use lib.IntN.{ℤ, pos, negℤ, _-ℤ_}
 use lib.Signed.{leZ}
 use mir.Facts.{toZ-ofZ}
-use Rattle.arith.proofs.Machine.{M, num, var, _⊟_, fits, value}
+use mir.Syntax.{w64}
+use mir.Val.{toZ, ofZ}
+use Rattle.arith.proofs.Machine.{M, num, var, _⊟_, raw, fits, value}
 use Rattle.arith.proofs.Ring.{#, _⊝_, ⊖, le!, le?}
 use Rattle.arith.proofs.Test.{same-test, le-true, true-le}
 use Rattle.clauses.specs.Verdicts.{judged}
@@ -34,7 +36,10 @@ judge-requires c κs = search needs
 returns : tie.Need-returns
 returns c =
     let s = c .before .before in
-    c .judge .ensures ∙ ap judged (c .before .both .ensures
+    let read : c .before .both .result
+    ≡ leZ (toZ w64 (ofZ w64 (s .args .m))) (toZ w64 (ofZ w64 (s .args .top))) && leZ (toZ w64 (raw (minus s))) (toZ w64 (ofZ w64 (s .args .bottom)))
+    = c .before .both .ensures in
+    c .judge .ensures ∙ ap judged (read
     ∙ (λ i. leZ (toZ-ofZ (s .fits .m) i) (toZ-ofZ (s .fits .top) i) && leZ (value (minus s) tt i) (toZ-ofZ (s .fits .bottom) i))
     ∙ ap (λ t. leZ (s .args .m) (s .args .top) && t) (other-side (s .args .m) (s .args .bottom)))
 
