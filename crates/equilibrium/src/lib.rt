@@ -1,4 +1,6 @@
 // A section of reinforced concrete in equilibrium: document 01, "Equilibrium".
+mod balance;
+mod guess;
 pub mod resistance;
 pub mod search;
 

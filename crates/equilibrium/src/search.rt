@@ -1,6 +1,12 @@
 // The depth of the neutral axis, by pairs of trials: document 01, "Equilibrium". A trial compares the internal force with N exactly and
 // without a division.
 use super::Depth;
+use super::balance::concrete_of;
+use super::balance::rest_of;
+use super::guess::chosen;
+use super::guess::fewer;
+use super::guess::first_guess;
+use super::guess::next_guess;
 use super::resistance::layer_lift;
 use section::Design;
 ghost use Prim.Native.Nat.{_+_, _*_, _≤_, _<_};
@@ -49,22 +55,6 @@ fn lift_pair(x: Design, count: usize, depths: &[u32; 16], areas: &[u32; 16], v: 
     }
 }
 
-// f·L·b: 80,000 times the force of the concrete for each tenth of its depth.
-fn concrete_of(x: Design) -> u64
-    requires { ⌜ Bounded x ⌝ }
-    ensures { λ r. ⌜ r ≡ x .m .f * x .m .l * x .b ⌝ }
-{
-    x.m.f * x.m.l * x.b
-}
-
-// 80,000·N and what the steel carries in tension.
-fn rest_of(x: Design, steel: u64, n: i64) -> i64
-    requires { ⌜ Bounded x × ((steel ≤ 320000) × Within n 500000000) ⌝ }
-    ensures { λ r. ⌜ r ≡ restAt x steel n ⌝ }
-{
-    80000 * n + (800 * x.m.s * steel) as i64
-}
-
 fn excess_of(x: Design, steel: u64, n: i64, lift: u64, u: u64) -> i64
     requires { ⌜ ExcessBounds x steel n lift u ⌝ }
     ensures { λ r. ⌜ r ≡ excessBy x steel n lift u ⌝ }
@@ -91,56 +81,6 @@ fn excesses(
     Pair { at: at, next: next }
 }
 
-// Where to begin: the depth at which the concrete carries N with all steel yielded in tension. Nothing rests on it.
-fn first_guess(x: Design, steel: u64, n: i64) -> i64
-    requires { ⌜ Bounded x × ((steel ≤ 320000) × Within n 500000000) ⌝ }
-{
-    rest_of(x, steel, n) / (concrete_of(x) as i64)
-}
-
-// Where the line through the excess at v and at v + 1 meets 0. Nothing rests on it.
-fn tangent(at: i64, next: i64, v: u64) -> i64
-    requires { ⌜ Within at 2028800000000000000 × (Within next 2028800000000000000 × (v ≤ 20000)) ⌝ }
-{
-    let slope = next - at;
-    if slope < 1 {
-        return v as i64;
-    }
-    if 0 < at {
-        return v as i64 - (next - 1) / slope;
-    }
-    v as i64 - at / slope
-}
-
-// The guess for the next round: by the line, and the middle once no round of these is left.
-fn next_guess(at: i64, next: i64, v: u64, lo: u64, hi: u64, left: u64) -> i64
-    requires { ⌜ (Within at 2028800000000000000 × (Within next 2028800000000000000 × (v ≤ 20000))) × ((lo ≤ 20000) × (hi ≤ 20000)) ⌝ }
-{
-    if left < 1 {
-        return ((lo + hi) / 2) as i64;
-    }
-    tangent(at, next, v)
-}
-
-// A guess, held within lo and hi - 1.
-fn chosen(guess: i64, lo: u64, hi: u64) -> u64
-    requires { ⌜ (lo < hi) × (hi ≤ 20000) ⌝ }
-    ensures { λ r. ⌜ (lo ≤ r) × (r < hi) ⌝ }
-{
-    if guess < 0 {
-        return lo;
-    }
-    let g = guess as u64;
-    if g < lo {
-        return lo;
-    }
-    if g < hi { g } else { hi - 1 }
-}
-
-fn fewer(left: u64) -> u64 {
-    if left < 1 { 0 } else { left - 1 }
-}
-
 // The greatest depth that carries, where 1 does: from lo to hi, as lo carries and nothing above hi does. A round tries a depth and the
 // next tenth, wherever the guess is: they are on both sides of the answer, or both are below it or both above.
 fn by_pairs(
@@ -157,7 +97,7 @@ fn by_pairs(
 {
     let mut lo: u64 = 1;
     let mut hi: u64 = 10 * x.h;
-    let mut guess = first_guess(x, steel, n);
+    let mut guess = first_guess(x, count, depths, areas, steel, n);
     let mut left: u64 = 7;
     while lo < hi {
         let v = chosen(guess, lo, hi);

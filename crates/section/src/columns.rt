@@ -42,15 +42,10 @@ pub fn steel_area(count: usize, areas: &[u32; 16]) -> u64
 }
 
 // A depth from the other face; 0 where it is no depth of the section.
-fn turned_depth(h: u64, depth: u32) -> u32
-    requires { ⌜ h ≤ 2000 ⌝ }
+fn turned_depth(h: u32, depth: u32) -> u32
     ensures { λ r. ⌜ r ≡ h - depth ⌝ }
 {
-    if h <= depth as u64 {
-        0
-    } else {
-        (h - depth as u64) as u32
-    }
+    if h <= depth { 0 } else { h - depth }
 }
 
 // The section turned over: the depths from the other face, of all sixteen places; the areas are as they are.
@@ -60,7 +55,7 @@ pub fn turn_over(h: u64, depths: &[u32; 16], turned: &mut [u32; 16])
 {
     let mut i: usize = 0;
     while i < 16 {
-        turned[i] = turned_depth(h, depths[i]);
+        turned[i] = turned_depth(h as u32, depths[i]);
         i += 1;
     }
 }

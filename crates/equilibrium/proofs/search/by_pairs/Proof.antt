@@ -97,7 +97,7 @@ first-guess-requires : tie.Need-first-guess-requires Inv-loop μ-loop
 first-guess-requires c κs =
     let s = c .before in
     let t = s .pre .0 in
-    (t .usable .bounded, (omega (arith, t .area, area-high (t .usable)), rw (toZ-ofZ (s .fits .n)) (t .load)))
+    ((t .usable .bounded, t .usable .count-high), (omega (arith, t .area, area-high (t .usable)), rw (toZ-ofZ (s .fits .n)) (t .load)))
 
 loop-holds : tie.Need-loop-holds Inv-loop μ-loop
 loop-holds c =

@@ -18,6 +18,9 @@ abbrev μ-loop : tie.MeasureT-loop
 loop-holds : tie.Need-loop-holds Inv-loop μ-loop
 loop-holds c = (omega arith, c .pre .1 .1, c .pre .1 .0, refl)
 
+cast-turned-depth : tie.Need-cast-turned-depth Inv-loop μ-loop
+cast-turned-depth c = search needs
+
 mul-turned-depth : tie.Need-mul-turned-depth Inv-loop μ-loop
 mul-turned-depth c = search needs
 
@@ -67,6 +70,7 @@ turn-over-spec =
     Inv-loop
     μ-loop
     loop-holds
+    cast-turned-depth
     mul-turned-depth
     element-copy-out-turned-depth
     turned-depth-requires

@@ -1,10 +1,10 @@
--- `equilibrium::search::concrete_of` meets its contract. Assumes nothing.
+-- `equilibrium::balance::concrete_of` meets its contract. Assumes nothing.
 use native.Mathlib.Nat.{mul-le-mul}
 use native.Mathlib.Omega.{arith}
 use borrow.Author.Needs.{needs}
 use Rattle.equilibrium.proofs.Sizes.{concrete-high}
-use Rattle.equilibrium.proofs.search.concrete_of.Statement.{statement}
-use Rattle.equilibrium.proofs.search.concrete_of.Tie as tie
+use Rattle.equilibrium.proofs.balance.concrete_of.Statement.{statement}
+use Rattle.equilibrium.proofs.balance.concrete_of.Tie as tie
 
 mul-result : tie.Need-mul-result
 mul-result c = omega (arith, mul-le-mul (c .before .pre .materials .f-high) (c .before .pre .materials .L-high))

@@ -1,12 +1,12 @@
--- `equilibrium::search::rest_of` meets its contract: each need is its source expression. Assumes nothing.
+-- `equilibrium::balance::rest_of` meets its contract: each need is its source expression. Assumes nothing.
 use Prim.Native.Nat.{_*_, _≤_}
 use native.Mathlib.Omega.{arith}
 use borrow.Author.Needs.{needs}
 use lib.IntN.{pos}
 use Rattle.arith.proofs.Machine.{M, nat, var, num, _⊞_, _⊠_, fits, value}
 use Rattle.equilibrium.proofs.Sizes.{steel-rest}
-use Rattle.equilibrium.proofs.search.rest_of.Statement.{statement}
-use Rattle.equilibrium.proofs.search.rest_of.Tie as tie
+use Rattle.equilibrium.proofs.balance.rest_of.Statement.{statement}
+use Rattle.equilibrium.proofs.balance.rest_of.Tie as tie
 
 module _ (c : tie.Start) where
   steel-in : 800 * c .args .x .m .s * c .args .steel ≤ 15360000000000

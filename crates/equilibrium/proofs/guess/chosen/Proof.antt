@@ -1,9 +1,9 @@
--- `equilibrium::search::chosen` meets its contract. Assumes nothing.
+-- `equilibrium::guess::chosen` meets its contract. Assumes nothing.
 use borrow.Author.Needs.{needs}
 use mir.Facts.{toZ-ofZ}
 use Rattle.arith.proofs.Test.{lt-false, to-unsigned}
-use Rattle.equilibrium.proofs.search.chosen.Statement.{statement}
-use Rattle.equilibrium.proofs.search.chosen.Tie as tie
+use Rattle.equilibrium.proofs.guess.chosen.Statement.{statement}
+use Rattle.equilibrium.proofs.guess.chosen.Tie as tie
 
 returns : tie.Need-returns
 returns c = search needs
