@@ -26,8 +26,9 @@ use Rattle.equilibrium.specs.Depth.{depthUnder}
 use Rattle.equilibrium.proofs.Accuracy.{never-back}
 use Rattle.clauses.specs.declared.Listed.{Listed}
 use Rattle.clauses.specs.declared.Checked.the-variants.{Done}
+use Rattle.clauses.specs.Compressed.{ofCompressed, ofOther}
 use Rattle.clauses.specs.Refusals.{facesTests}
-use Rattle.clauses.specs.Check.{ofCompressed, ofOther, listed, reportAt, checkFaces, checkOf}
+use Rattle.clauses.specs.Check.{listed, reportAt, checkFaces, checkOf}
 use Rattle.clauses.proofs.Checking.{load-passed}
 use Rattle.cases.specs.Case.{CheckRow, sameListed, checkHolds}
 
@@ -65,12 +66,12 @@ module _ (s : Section) (load : Load) (l : Listed) where
 
   unfoldable pub reports : Accepted → Bool
   reports (Ready x) =
-      eqb (firstFailing (loadTests load)) 0 && (eqb (firstFailing (facesTests x (layersOf s) (below x) (load .n))) 0
+      eqb (firstFailing (loadTests load)) 0 && (eqb (firstFailing (facesTests x (layersOf s) (below x) load)) 0
       && (isDepth x (layersOf s) (load .n) top && (isDepth x (below x) (load .n) bottom
       && sameListed (listed (Done (reportAt x load (layersOf s) (below x) top bottom))) l)))
   reports (Refused k) = false
 
-  at-depths : (x : Design) → firstFailing (facesTests x (layersOf s) (below x) (load .n)) ≡ 0 → depthUnder (layersOf s) (load .n) x ≡ top
+  at-depths : (x : Design) → firstFailing (facesTests x (layersOf s) (below x) load) ≡ 0 → depthUnder (layersOf s) (load .n) x ≡ top
       → depthUnder (below x) (load .n) x ≡ bottom
       → checkFaces x (layersOf s) (below x) load ≡ Done (reportAt x load (layersOf s) (below x) top bottom)
   unfolding checkFaces
@@ -81,7 +82,7 @@ module _ (s : Section) (load : Load) (l : Listed) where
   reports-sound (Refused k) e h = absurd (holds h)
   reports-sound (Ready x) e h =
       let loaded = both-true (eqb (firstFailing (loadTests load)) 0) _ h in
-      let faces = both-true (eqb (firstFailing (facesTests x (layersOf s) (below x) (load .n))) 0) _ (loaded .1) in
+      let faces = both-true (eqb (firstFailing (facesTests x (layersOf s) (below x) load)) 0) _ (loaded .1) in
       let t = both-true (isDepth x (layersOf s) (load .n) top) _ (faces .1) in
       let b = both-true (isDepth x (below x) (load .n) bottom) _ (t .1) in
       let is : checkOf s load ≡ Done (reportAt x load (layersOf s) (below x) top bottom) =

@@ -31,6 +31,7 @@ use Rattle.clauses.specs.declared.Face.{Face}
 use Rattle.clauses.specs.declared.Report.{Report}
 use Rattle.clauses.specs.declared.Checked.{Checked}
 use Rattle.clauses.specs.declared.Checked.the-variants.{Done, Refused}
+use Rattle.clauses.specs.Compressed.{ofCompressed}
 use Rattle.clauses.specs.Refusals.{facesTests, facesTestsOf, checkTests}
 use Rattle.clauses.specs.Check.{faceAt, reportOf, reportAt, reported, checkFaces, checkIn, checkOf, refusalNumber}
 use Rattle.clauses.specs.Verdicts.{numberOf, first}
@@ -57,9 +58,17 @@ module _ (x : Design) (top bottom : List Layer) (load : Load) where
   as-found true true true = refl
 
   module _ (same : carries x bottom (load .n) 1 ≡ carries x top (load .n) 1) where
+    -- so of the one that M compresses
+    compressed : carries x (ofCompressed (load .m) top bottom) (load .n) 1 ≡ carries x top (load .n) 1
+    compressed = go (leZ (pos 0) (load .m))
+      where
+        go : (z : Bool) → carries x (cond z top bottom) (load .n) 1 ≡ carries x top (load .n) 1
+        go true = refl
+        go false = same
+
     faces-by-depths : by-depths x top bottom load (depthFor x top (load .n)) (depthFor x bottom (load .n)) ≡ checkFaces x top bottom load
     unfolding depthFor checkFaces
-    faces-by-depths = rw same (as-found (carries x top (load .n) 1) (reaches x top (load .n)) (reaches x bottom (load .n)))
+    faces-by-depths = rw (compressed, same) (as-found (carries x top (load .n) 1) (reaches x top (load .n)) (reaches x bottom (load .n)))
 
     pub top-refused : {k : ℕ} → depthFor x top (load .n) ≡ depth.Refused k → Refused k ≡ checkFaces x top bottom load
     unfolding by-depths
@@ -75,9 +84,9 @@ module _ (x : Design) (top bottom : List Layer) (load : Load) where
     unfolding by-depths
     both-at e f = rw (e, f) at faces-by-depths
 
-  pub one-refused : carries x top (load .n) 1 ≡ false → Refused 11 ≡ checkFaces x top bottom load
-  unfolding checkFaces
-  one-refused e = rw e
+    pub one-refused : carries x top (load .n) 1 ≡ false → Refused 11 ≡ checkFaces x top bottom load
+    unfolding checkFaces
+    one-refused e = rw (compressed, e)
 
 -- ---- a report's faces are the top and the bottom, whatever the sign of M
 
@@ -103,7 +112,7 @@ module _ (s : Section) (load : Load) where
   found x = reported (layersOf s) (turned (x .h) (layersOf s)) load x
 
   abbrev under-load : Accepted → List ℕ
-  under-load a = loadTests load ++ facesTestsOf a (layersOf s) (load .n)
+  under-load a = loadTests load ++ facesTestsOf a (layersOf s) load
 
   pub check-refused : {k : ℕ} → accepted (counted s) ≡ section.Refused k → Refused k ≡ checkOf s load
   unfolding checkIn
@@ -112,11 +121,11 @@ module _ (s : Section) (load : Load) where
   -- of an accepted section the load tests come next, and then those of the faces
   check-ready : {x : Design} → accepted (counted s) ≡ section.Ready x
       → checkOf s load ≡ answer Refused found
-      (orElse (firstFailing (loadTests load)) (firstFailing (facesTests x (layersOf s) (turned (x .h) (layersOf s)) (load .n)))) (section.Ready x)
+      (orElse (firstFailing (loadTests load)) (firstFailing (facesTests x (layersOf s) (turned (x .h) (layersOf s)) load))) (section.Ready x)
   unfolding checkIn
   check-ready {x} e =
       call-ready Refused found s under-load e
-      ∙ ap (λ (k : ℕ). answer Refused found k (section.Ready x)) (first-of (loadTests load) (facesTests x (layersOf s) (turned (x .h) (layersOf s)) (load .n)))
+      ∙ ap (λ (k : ℕ). answer Refused found k (section.Ready x)) (first-of (loadTests load) (facesTests x (layersOf s) (turned (x .h) (layersOf s)) load))
 
   pub load-refused : {x : Design} (k : ℕ) → accepted (counted s) ≡ section.Ready x → k ≡ firstFailing (loadTests load) → (k ≡ 0 → ⊥)
       → Refused k ≡ checkOf s load
@@ -126,7 +135,7 @@ module _ (s : Section) (load : Load) where
   pub load-passed : {x : Design} → accepted (counted s) ≡ section.Ready x → firstFailing (loadTests load) ≡ 0
       → checkFaces x (layersOf s) (turned (x .h) (layersOf s)) load ≡ checkOf s load
   unfolding checkFaces
-  load-passed {x} e none = sym (check-ready e ∙ rw none (of-faces (firstFailing (facesTests x (layersOf s) (turned (x .h) (layersOf s)) (load .n)))))
+  load-passed {x} e none = sym (check-ready e ∙ rw none (of-faces (firstFailing (facesTests x (layersOf s) (turned (x .h) (layersOf s)) load))))
     where
       of-faces : (k : ℕ) → answer Refused found k (section.Ready x)
           ≡ answer Refused (reported (layersOf s) (turned (x .h) (layersOf s)) load) k (section.Ready x)

@@ -1,10 +1,8 @@
 -- Check: document 01, "Verdicts", with both faces of 02's ticket 1. Assumes nothing.
 use Prim.Native.Nat.{ℕ}
-use mathlib.Core.Bool.{cond}
 use mathlib.Core.List.{List, [], _∷_}
-use lib.IntN.{ℤ, pos}
+use lib.IntN.{pos}
 use lib.ListN.{replicate}
-use lib.Signed.{leZ}
 use Rattle.arith.specs.Chain.{firstFailing}
 use Rattle.section.specs.declared.Layer.{Layer}
 use Rattle.section.specs.declared.Section.{Section}
@@ -24,16 +22,9 @@ use Rattle.clauses.specs.declared.Verdict.{Verdict}
 use Rattle.clauses.specs.declared.Checked.{Checked}
 use Rattle.clauses.specs.declared.Checked.the-variants.{Done, Refused}
 use Rattle.clauses.specs.Tension.{areaOf, As, dm}
+use Rattle.clauses.specs.Compressed.{ofCompressed, ofOther}
 use Rattle.clauses.specs.Refusals.{facesTests, checkTests}
 use Rattle.clauses.specs.Verdicts.{numberOf, first, second, third, fourth, fifth}
-
--- of two things of the faces, that of the face which M compresses: the top for M ≥ 0, the bottom for M < 0
-abbrev pub ofCompressed : {A : Type 0} → ℤ → A → A → A
-ofCompressed M top bottom = cond (leZ (pos 0) M) top bottom
-
--- and that of the other face
-abbrev pub ofOther : {A : Type 0} → ℤ → A → A → A
-ofOther M top bottom = cond (leZ (pos 0) M) bottom top
 
 -- u and MRd of the face that M compresses and of the other, VRd,c, dm, As and the five verdicts, with the layers as the compressed face
 -- sees them
@@ -83,7 +74,7 @@ reported top bottom load x = Done (reportAt x load top bottom (depthUnder top (l
 
 -- 11, 12 or the report, for both faces of an accepted section under a load in its range
 unfoldable pub checkFaces : Design → List Layer → List Layer → Load → Checked
-checkFaces x top bottom load = answer Refused (reported top bottom load) (firstFailing (facesTests x top bottom (load .n))) (section.Ready x)
+checkFaces x top bottom load = answer Refused (reported top bottom load) (firstFailing (facesTests x top bottom load)) (section.Ready x)
 
 -- Check: the top sees the layers as they are, the bottom sees them turned over
 unfoldable pub checkIn : Counted → Load → Checked

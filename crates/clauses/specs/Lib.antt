@@ -1,3 +1,4 @@
+pub mod Compressed
 pub mod Tension
 pub mod Code
 pub mod Verdicts

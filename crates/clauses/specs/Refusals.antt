@@ -3,7 +3,6 @@
 use Prim.Native.Nat.{ℕ}
 use mathlib.Core.Bool.{_&&_}
 use mathlib.Core.List.{List, [], _∷_, _++_}
-use lib.IntN.{ℤ}
 use Rattle.arith.specs.Chain.{test}
 use Rattle.section.specs.declared.Layer.{Layer}
 use Rattle.section.specs.declared.Load.{Load}
@@ -14,21 +13,22 @@ use Rattle.section.specs.Section.{Counted}
 use Rattle.section.specs.Refusals.{sectionTests, loadTests, accepted}
 use Rattle.section.specs.Turned.{turned}
 use Rattle.equilibrium.specs.Refusals.{carries, reaches}
+use Rattle.clauses.specs.Compressed.{ofCompressed}
 
 -- what N asks of both faces, whose layers are `top` and `bottom` as each face sees them
-abbrev pub facesTests : Design → List Layer → List Layer → ℤ → List ℕ
-facesTests x top bottom N =
-    -- 11 N below the internal force at depth 1, which is the same for both (`one-turned`)
-    test 11 (carries x top N 1)
+abbrev pub facesTests : Design → List Layer → List Layer → Load → List ℕ
+facesTests x top bottom load =
+    -- 11 N below the internal force at depth 1, for the face compressed; the other says the same (`one-turned`)
+    test 11 (carries x (ofCompressed (load .m) top bottom) (load .n) 1)
     -- 12 N above the internal force at depth 10h of either
-    ∷ test 12 (reaches x top N && reaches x bottom N)
+    ∷ test 12 (reaches x top (load .n) && reaches x bottom (load .n))
     ∷ []
 
 -- of an accepted section: the bottom sees it turned over
-abbrev pub facesTestsOf : Accepted → List Layer → ℤ → List ℕ
-facesTestsOf (section.Ready x) ls N = facesTests x ls (turned (x .h) ls) N
-facesTestsOf (section.Refused k) ls N = []
+abbrev pub facesTestsOf : Accepted → List Layer → Load → List ℕ
+facesTestsOf (section.Ready x) ls load = facesTests x ls (turned (x .h) ls) load
+facesTestsOf (section.Refused k) ls load = []
 
 -- Check: the section tests, the load tests, then 11 and 12
 abbrev pub checkTests : Counted → Load → List ℕ
-checkTests c load = sectionTests c ++ (loadTests load ++ facesTestsOf (accepted c) (c .layers) (load .n))
+checkTests c load = sectionTests c ++ (loadTests load ++ facesTestsOf (accepted c) (c .layers) load)

@@ -1,4 +1,4 @@
-// What the clauses of EN 1992-1-1 say of a section and its load: document 01, "Verdicts".
+// What the clauses of EN 1992-1-1 say of a section and its load: document 01, "Verdicts", and 02's ticket 1.
 mod check;
 pub mod numbers;
 mod tension;
@@ -71,7 +71,8 @@ pub struct Listed {
     pub verdicts: [u64; 5],
 }
 
-// Check a section under a load. Depth, resistances and verdicts are those of the face that M compresses; verdict one asks both faces.
+// Check a section under a load. u, MRd, VRd,c, dm, As and verdicts two to four are those of the face that M compresses, `other` is the other
+// face; verdict one asks both, five neither.
 // Refusals: the section tests, the load tests, 11 N below the internal force at depth 1, 12 N above that at 10h of either face.
 pub fn check_section(s: Section, l: Load) -> Checked
     ensures { λ r. ⌜ r ≡ checkOf s l ⌝ }

@@ -1,4 +1,4 @@
-// The five verdicts, in document 01's sequence.
+// The five verdicts, in document 01's sequence; the first as 02's ticket 1 has it.
 use super::Verdict;
 ghost use mathlib.Core.Path.{_≡_};
 ghost use Prim.Native.Nat.{_≤_};
@@ -31,7 +31,7 @@ pub fn moment_verdict(m: i64, top: i64, bottom: i64) -> Verdict
     judge(arith::both(m <= top, 0 - m <= bottom))
 }
 
-// Two, 5.6.3(2): the depth of the neutral axis, u in tenths of a millimetre. No depth is above 30h.
+// Two, 5.6.3(2): the depth of the neutral axis, u in tenths of a millimetre.
 pub fn depth_verdict(fck: u64, u: u64, area: u64, dm: u64) -> Verdict
     requires { ⌜ (u ≤ 60000) × (dm ≤ 1999) ⌝ }
     ensures { λ r. ⌜ r ≡ second fck u area dm ⌝ }

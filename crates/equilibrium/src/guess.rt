@@ -1,9 +1,9 @@
-// Where to try next, in the search for a depth. Nothing rests on a guess, which is tried whatever it is: of these functions nothing is
-// shown but that no number overflows, and that `chosen` is a candidate.
+// Where the search for a depth begins. Nothing rests on a guess, which is tried whatever it is: of these functions nothing is shown but
+// that no number overflows, and that what `chosen` and `first_guess` answer is a candidate.
 use super::balance::concrete_of;
 use super::balance::rest_of;
 use section::Design;
-ghost use Prim.Native.Nat.{_≤_, _<_};
+ghost use Prim.Native.Nat.{_*_, _≤_, _<_};
 ghost use Rattle.arith.specs.Integer.{Within};
 ghost use Rattle.section.specs.Code.Usable.{Bounded};
 
@@ -22,10 +22,14 @@ pub fn chosen(guess: i64, lo: u64, hi: u64) -> u64
     if g < hi { g } else { hi - 1 }
 }
 
-// ---- the first
+// A layer's area times its depth. The remainders change no layer that passed its tests: they only show that nothing overflows.
+fn product(area: u32, depth: u32) -> u64
+    ensures { λ r. ⌜ r ≤ 67108864 ⌝ }
+{
+    (area % 32768) as u64 * (depth % 2048) as u64
+}
 
-// The first moment of the layers' area about the compressed face. The remainders change no layer that passed its tests: they only show
-// that nothing overflows.
+// The first moment of the layers' area about the compressed face.
 fn first_moment(count: usize, depths: &[u32; 16], areas: &[u32; 16]) -> u64
     requires { ⌜ count ≤ 16 ⌝ }
     ensures { λ r. ⌜ r ≤ 1073741824 ⌝ }
@@ -39,14 +43,8 @@ fn first_moment(count: usize, depths: &[u32; 16], areas: &[u32; 16]) -> u64
     sum
 }
 
-fn product(area: u32, depth: u32) -> u64
-    ensures { λ r. ⌜ r ≤ 67108864 ⌝ }
-{
-    (area % 32768) as u64 * (depth % 2048) as u64
-}
-
-// For steel that lies all at one depth and does not yield, the excess is concrete·v² + fall·v − lean: one step of Newton's rule from v
-// towards its zero.
+// One step of Newton's rule from v towards the zero of concrete·v² + fall·v − lean: the excess, for steel that lies all at one depth and
+// does not yield.
 fn nearer(concrete: u64, fall: i64, lean: u64, v: u64) -> i64
     requires { ⌜ (concrete ≤ 768000000) × ((lean ≤ 700000000000000000) × (Within fall 88640000000000 × (v ≤ 20000))) ⌝ }
 {
@@ -57,7 +55,8 @@ fn nearer(concrete: u64, fall: i64, lean: u64, v: u64) -> i64
     (concrete * v * v + lean) as i64 / slope
 }
 
-// What the lift of steel that does not yield gains with each tenth, and what it lies below 0 at depth 0, 80,000 times.
+// 800 times what the lift of steel that does not yield gains with each tenth, and what it lies below 0 at depth 0: so it stands in the
+// excess.
 fn climb_of(x: Design, steel: u64) -> u64
     requires { ⌜ Bounded x × (steel ≤ 320000) ⌝ }
     ensures { λ r. ⌜ r ≤ 33280000000000 ⌝ }
@@ -72,9 +71,9 @@ fn lean_of(x: Design, moment: u64) -> u64
     800000 * x.m.e * moment
 }
 
-// Where to begin: where all steel, at its mean depth, is in equilibrium with the concrete. The first trial is the depth at which the
-// concrete carries N with all steel yielded in tension, and two steps lead from there where it does not yield. One layer is its own mean,
-// so that a third step finds its depth.
+// Where all steel, put at its mean depth, is in equilibrium with the concrete. The first of these depths is the one at which the concrete
+// carries N with all steel yielded in tension, and two steps lead from there where it does not yield. One layer is its own mean, so that a
+// third step mostly finds its depth.
 pub fn first_guess(
     x: Design,
     count: usize,
@@ -82,8 +81,9 @@ pub fn first_guess(
     areas: &[u32; 16],
     steel: u64,
     n: i64,
-) -> i64
+) -> u64
     requires { ⌜ (Bounded x × (count ≤ 16)) × ((steel ≤ 320000) × Within n 500000000) ⌝ }
+    ensures { λ r. ⌜ (1 ≤ r) × (r < 10 * x .h) ⌝ }
 {
     let concrete = concrete_of(x);
     let rest = rest_of(x, steel, n);
@@ -93,42 +93,12 @@ pub fn first_guess(
     let fall = climb as i64 - rest;
     let v = chosen(rest / concrete as i64, 1, most);
     if climb * v <= lean {
-        return v as i64;
+        return v;
     }
     let w = chosen(nearer(concrete, fall, lean, v), 1, most);
     let z = chosen(nearer(concrete, fall, lean, w), 1, most);
     if 1 < count {
-        return z as i64;
+        return z;
     }
-    nearer(concrete, fall, lean, z)
-}
-
-// ---- the next
-
-// Where the line through the excess at v and at v + 1 meets 0.
-fn tangent(at: i64, next: i64, v: u64) -> i64
-    requires { ⌜ Within at 2028800000000000000 × (Within next 2028800000000000000 × (v ≤ 20000)) ⌝ }
-{
-    let slope = next - at;
-    if slope < 1 {
-        return v as i64;
-    }
-    if 0 < at {
-        return v as i64 - (next - 1) / slope;
-    }
-    v as i64 - at / slope
-}
-
-// By that line; the middle once no round of these is left.
-pub fn next_guess(at: i64, next: i64, v: u64, lo: u64, hi: u64, left: u64) -> i64
-    requires { ⌜ (Within at 2028800000000000000 × (Within next 2028800000000000000 × (v ≤ 20000))) × ((lo ≤ 20000) × (hi ≤ 20000)) ⌝ }
-{
-    if left < 1 {
-        return ((lo + hi) / 2) as i64;
-    }
-    tangent(at, next, v)
-}
-
-pub fn fewer(left: u64) -> u64 {
-    if left < 1 { 0 } else { left - 1 }
+    chosen(nearer(concrete, fall, lean, z), 1, most)
 }

@@ -4,9 +4,7 @@ use super::Depth;
 use super::balance::concrete_of;
 use super::balance::rest_of;
 use super::guess::chosen;
-use super::guess::fewer;
 use super::guess::first_guess;
-use super::guess::next_guess;
 use super::resistance::layer_lift;
 use section::Design;
 ghost use Prim.Native.Nat.{_+_, _*_, _≤_, _<_};
@@ -19,7 +17,7 @@ ghost use Rattle.equilibrium.specs.Refusals.{carries};
 ghost use Rattle.equilibrium.specs.Depth.{depthFor};
 ghost use Rattle.equilibrium.specs.Accuracy.{PromisedDepth};
 ghost use Rattle.section.specs.Code.Columns.{layersIn};
-ghost use Rattle.equilibrium.specs.Code.Whole.{liftSum, restAt, carriesAtOne, excessBy, excess, ExcessBounds, Trial};
+ghost use Rattle.equilibrium.specs.Code.Whole.{liftSum, carriesAtOne, excessBy, excess, ExcessBounds, Trial};
 
 // The lift of all layers at a depth and at the next tenth.
 struct Lifts {
@@ -81,6 +79,34 @@ fn excesses(
     Pair { at: at, next: next }
 }
 
+// Where the line through the excess at v and at v + 1 meets 0.
+fn tangent(at: i64, next: i64, v: u64) -> i64
+    requires { ⌜ Within at 2028800000000000000 × (Within next 2028800000000000000 × (v ≤ 20000)) ⌝ }
+{
+    let slope = next - at;
+    if slope < 1 {
+        return v as i64;
+    }
+    if 0 < at {
+        return v as i64 - (next - 1) / slope;
+    }
+    v as i64 - at / slope
+}
+
+// The guess for the next round: by that line, and the middle once no round of these is left.
+fn next_guess(at: i64, next: i64, v: u64, lo: u64, hi: u64, left: u64) -> i64
+    requires { ⌜ (Within at 2028800000000000000 × (Within next 2028800000000000000 × (v ≤ 20000))) × ((lo ≤ 20000) × (hi ≤ 20000)) ⌝ }
+{
+    if left < 1 {
+        return ((lo + hi) / 2) as i64;
+    }
+    tangent(at, next, v)
+}
+
+fn fewer(left: u64) -> u64 {
+    if left < 1 { 0 } else { left - 1 }
+}
+
 // The greatest depth that carries, where 1 does: from lo to hi, as lo carries and nothing above hi does. A round tries a depth and the
 // next tenth, wherever the guess is: they are on both sides of the answer, or both are below it or both above.
 fn by_pairs(
@@ -97,7 +123,8 @@ fn by_pairs(
 {
     let mut lo: u64 = 1;
     let mut hi: u64 = 10 * x.h;
-    let mut guess = first_guess(x, count, depths, areas, steel, n);
+    let mut guess = first_guess(x, count, depths, areas, steel, n) as i64;
+    // the first guess, six by the line, and then the middle
     let mut left: u64 = 7;
     while lo < hi {
         let v = chosen(guess, lo, hi);

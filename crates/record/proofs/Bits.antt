@@ -46,16 +46,13 @@ bit-fits m k h g =
     omega arith
 
 -- a bit that does not stand is 0
-pub bit-zero : (m k : ℕ) → stands m k ≡ false → m / 2 ^ k % 2 ≡ 0
+bit-zero : (m k : ℕ) → stands m k ≡ false → m / 2 ^ k % 2 ≡ 0
 bit-zero m k t = zero-of (m / 2 ^ k % 2) (mod-lt (m / 2 ^ k) (lit< tt)) (eqb-false (m / 2 ^ k % 2) 1 t)
   where
     zero-of : (d : ℕ) → d < 2 → (d ≡ 1 → ⊥) → d ≡ 0
     zero-of zero h n = refl
     zero-of (suc zero) h n = absurd (n refl)
     zero-of (suc (suc d)) h n = absurd (omega arith)
-
-pub zero-bit : (m k : ℕ) → m / 2 ^ k % 2 ≡ 0 → stands m k ≡ false
-zero-bit m k e = ap (λ (d : ℕ). eqb d 1) e
 
 -- ---- one bit more
 standing-suc : (m k : ℕ) → standing m (suc k) ≡ standing m k + m / 2 ^ k % 2

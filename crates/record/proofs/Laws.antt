@@ -1,6 +1,6 @@
 -- Laws of records that documents cite and no contract needs. Each follows from the definitions of specs/. Assumes nothing.
 use mathlib.Core.Path.{_≡_, ap}
-use mathlib.Core.List.{List, _++_}
+use mathlib.Core.List.{List}
 use Prim.Native.Nat.{ℕ}
 use lib.ListN.{length}
 use Rattle.section.specs.Section.{Counted, counted}
@@ -8,12 +8,7 @@ use Rattle.section.specs.declared.Section.{Section}
 use Rattle.section.specs.declared.Load.{Load}
 use Rattle.record.specs.Map.{recordLength}
 use Rattle.record.specs.Layout.{mapOf, recordOf}
-use Rattle.record.specs.Read.{readOf}
 use Rattle.record.specs.Write.{writtenOf, bufferOf}
-use Rattle.record.specs.RoundTrip.{readBack}
-use Rattle.record.proofs.Passed.{Machine}
-use Rattle.record.proofs.Readings.{testsOf}
-use Rattle.record.proofs.RoundTrip.{record-back}
 use Rattle.record.proofs.Writing.{length-record}
 
 -- "sections that differ only there count as the same": places beyond the count are not written
@@ -26,8 +21,3 @@ beyond-bytes s t l buf e = ap (λ (c : Counted). bufferOf c l buf) e
 -- the length that follows from the map is that of the record's bytes
 pub record-length : (c : Counted) (l : Load) → length (recordOf c l) ≡ recordLength (mapOf c l)
 record-length c l = length-record c l
-
--- records back to back: a record that passes its tests is read back, whatever bytes follow
-pub read-before : (s : Section) (l : Load) (ys : List ℕ) → Machine s l → testsOf s l ≡ 0
-    → readBack s l (recordLength (mapOf (counted s) l)) ≡ readOf (recordOf (counted s) l ++ ys)
-read-before s l ys machine passed = record-back s l ys machine passed

@@ -11,7 +11,7 @@ use lib.Seq.{drop-cons, take-all, take-suc, take-suc-set}
 use Rattle.section.specs.declared.Layer.{Layer}
 use Rattle.section.specs.declared.Section.{Section}
 use Rattle.section.specs.Section.{noLayer, layersOf, counted}
-use Rattle.section.specs.Code.Columns.{layerIn, layersFrom, layersIn, inColumns, turnedDepths, areaSum}
+use Rattle.section.specs.Code.Columns.{layerIn, layersFrom, layersIn, inColumns, Apart, turnedDepths, areaSum}
 use Rattle.section.specs.Turned.{turnedLayer, turned}
 
 module _ (ds bs : List ℕ) where
@@ -76,18 +76,19 @@ module _ (ls : List Layer) where
   pub apart : (n : ℕ) → n ≤ length ls → layersIn n (map (λ l. l .depth) ls) (map (λ l. l .area) ls) ≡ take n ls
   apart n h = from n 0 (omega arith)
 
--- the columns of a section's places hold its counted layers
-pub counted-in : (s : Section) {ds bs : List ℕ} → length (s .layers) ≡ 16 → s .count ≤ 16
-    → (ds ≡ map (λ l. l .depth) (s .layers)) × (bs ≡ map (λ l. l .area) (s .layers)) → layersIn (s .count) ds bs ≡ layersOf s
-counted-in s places n e = (λ i. layersIn (s .count) (e .0 i) (e .1 i)) ∙ apart (s .layers) (s .count) (omega arith)
+module _ {s : Section} {ds bs : List ℕ} (a : Apart s ds bs) where
+  held : (n : ℕ) → n ≤ 16 → layersIn n ds bs ≡ take n (s .layers)
+  held n few = (λ i. layersIn n (a .depths-are i) (a .areas-are i)) ∙ apart (s .layers) n (omega (arith, a .places))
 
--- what is read of it is the same in columns
-pub in-columns : (s : Section) {w h : ℤ} {ds bs : List ℕ} → length (s .layers) ≡ 16 → w ≡ s .width → h ≡ s .height
-    → (ds ≡ map (λ l. l .depth) (s .layers)) × (bs ≡ map (λ l. l .area) (s .layers)) → inColumns w h (s .grade) (s .count) ds bs ≡ counted s
-in-columns s {ds} {bs} places w h e =
-    let all : layersIn 16 ds bs ≡ s .layers = (λ i. layersIn 16 (e .0 i) (e .1 i)) ∙ apart (s .layers) 16 (omega arith)
-    ∙ take-all 16 (s .layers) (omega arith) in
-    λ i. record { width = w i; height = h i; grade = s .grade; count = s .count; layers = take (s .count) (all i) }
+  -- the columns hold its counted layers
+  pub counted-in : s .count ≤ 16 → layersIn (s .count) ds bs ≡ layersOf s
+  counted-in few = held (s .count) few
+
+  -- and what is read of it is the same in columns
+  pub in-columns : {w h : ℤ} → w ≡ s .width → h ≡ s .height → inColumns w h (s .grade) (s .count) ds bs ≡ counted s
+  in-columns w h =
+      let all : layersIn 16 ds bs ≡ s .layers = held 16 (omega arith) ∙ take-all 16 (s .layers) (omega (arith, a .places)) in
+      λ i. record { width = w i; height = h i; grade = s .grade; count = s .count; layers = take (s .count) (all i) }
 
 -- ---- turned over
 

@@ -3,3 +3,4 @@ pub mod OneLayer
 pub mod Usable
 pub mod Turned
 pub mod InColumns
+pub mod Opened

@@ -17,8 +17,8 @@ ghost use Rattle.section.specs.Refusals.{layerTests, sectionTests, loadT
 ghost use Rattle.section.specs.Code.Usable.{PromisedSection};
 ghost use Rattle.section.specs.Code.Columns.{layersIn, inColumns};
 
-// The layer at a counted place. A loop that must be quick has the places in a local and reads them there: here the section is
-// copied at each call, and a loop over `s.layers[i]` makes one more copy of all its fields.
+// The layer at a counted place, for whoever holds a section by value: here it is copied at each call. A loop that must be quick is lent the
+// columns.
 pub fn layer_at(s: Section, i: usize) -> Layer
     requires { ⌜ (i < s .count) × (s .count ≤ 16) ⌝ }
     ensures { λ r. ⌜ r ≡ getD (layersOf s) i noLayer ⌝ }

@@ -2,10 +2,12 @@
 -- document 01 stands here. Assumes nothing.
 use Prim.Native.Nat.{ℕ, zero, suc, _+_, _-_}
 use mathlib.Core.List.{List, [], _∷_, map}
+use mathlib.Core.Path.{_≡_}
 use lib.IntN.{ℤ}
-use lib.ListN.{getD, take}
+use lib.ListN.{length, getD, take}
 use Rattle.materials.specs.declared.Grade.{Grade}
 use Rattle.section.specs.declared.Layer.{Layer}
+use Rattle.section.specs.declared.Section.{Section}
 use Rattle.section.specs.Section.{Counted}
 
 -- the layer at place k
@@ -30,6 +32,12 @@ inColumns width height grade count depths areas = record {
   count = count;
   layers = take count (layersIn 16 depths areas);
 }
+
+-- a section taken apart: one column holds the depths of its sixteen places, the other their areas
+pub record Apart (s : Section) (depths areas : List ℕ) : Type 0 where
+  pub places : length (s .layers) ≡ 16
+  pub depths-are : depths ≡ map (λ l. l .depth) (s .layers)
+  pub areas-are : areas ≡ map (λ l. l .area) (s .layers)
 
 -- a column of depths, measured from the other face of a section with the height h
 abbrev pub turnedDepths : ℕ → List ℕ → List ℕ

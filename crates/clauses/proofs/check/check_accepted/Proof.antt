@@ -14,7 +14,7 @@ use Rattle.section.proofs.InColumns.{turned-in, area-any, area-turned}
 use Rattle.section.proofs.Turned.{usable-turned}
 use Rattle.equilibrium.specs.Refusals.{carries}
 use Rattle.equilibrium.specs.Code.Whole.{carriesAtOne}
-use Rattle.equilibrium.proofs.DepthOne.{one-by}
+use Rattle.equilibrium.proofs.DepthOne.{one-by, one-turned}
 use Rattle.equilibrium.proofs.Sizes.{area-high}
 use Rattle.clauses.specs.Check.{checkFaces}
 use Rattle.clauses.specs.Code.Ranges.{Faces}
@@ -83,7 +83,7 @@ returns c =
     let s = a .before in
     let short : carries (s .args .x) (ls s) (s .args .l .n) 1 ≡ false = one-by (ls s) (s .args .l .n) (s .pre .0) (steel-is a)
     ∙ failed (tested t) (c .if1 .taken) in
-    one-refused (s .args .x) (ls s) (turned (s .args .x .h) (ls s)) (s .args .l) short
+    one-refused (s .args .x) (ls s) (turned (s .args .x .h) (ls s)) (s .args .l) (one-turned (ls s) (s .args .l .n) (s .pre .0)) short
 
 turn-over-requires : tie.Need-turn-over-requires
 turn-over-requires c κs = search needs

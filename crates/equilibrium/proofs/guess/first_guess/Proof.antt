@@ -92,9 +92,6 @@ mul-if1 c =
     let v : c .chosen .result ≤ 20000 = omega (arith, c .chosen .ensures .1, s k .pre .0 .0 .h-high) in
     omega (arith, mul-le-mul (climbed k .climb-of .ensures) v)
 
-cast-result : tie.Need-cast-result
-cast-result c = search needs
-
 returns : tie.Need-returns
 returns c = search needs
 
@@ -110,14 +107,16 @@ nearer-requires-2 c κs = asked (c .before .before .before .before) (c .chosen2 
 chosen-requires-3 : tie.Need-chosen-requires-3
 chosen-requires-3 c κs = search needs
 
-cast-result-2 : tie.Need-cast-result-2
-cast-result-2 c = search needs
-
 returns-2 : tie.Need-returns-2
 returns-2 c = search needs
 
 nearer-requires-3 : tie.Need-nearer-requires-3
 nearer-requires-3 c κs = let z = c .before in asked (z .before .before .before .before .before .before) (z .chosen3 .ensures .1)
+
+chosen-requires-4 : tie.Need-chosen-requires-4
+chosen-requires-4 c κs =
+    let b = s (c .before .before .before .before .before .before .before .before) .pre .0 .0 in
+    (omega (arith, b .h-low), omega (arith, b .h-high))
 
 returns-3 : tie.Need-returns-3
 returns-3 c = search needs
@@ -138,13 +137,12 @@ first-guess-spec =
     div-chosen
     chosen-requires
     mul-if1
-    cast-result
     returns
     nearer-requires
     chosen-requires-2
     nearer-requires-2
     chosen-requires-3
-    cast-result-2
     returns-2
     nearer-requires-3
+    chosen-requires-4
     returns-3)

@@ -1,6 +1,5 @@
 -- `equilibrium::guess::first_moment` meets its contract: each layer adds at most 2²⁶. Assumes nothing.
 use Prim.Native.Nat.{_-_, _*_, _≤_}
-use native.Mathlib.Omega.{arith}
 use borrow.Author.Needs.{needs}
 use Rattle.equilibrium.proofs.guess.first_moment.Statement.{statement}
 use Rattle.equilibrium.proofs.guess.first_moment.Tie as tie

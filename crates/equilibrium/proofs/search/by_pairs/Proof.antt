@@ -13,7 +13,7 @@ use Rattle.arith.specs.Integer.{Within}
 use Rattle.arith.specs.Greatest.{greatest}
 use Rattle.arith.proofs.Greatest as greatest-laws
 use Rattle.arith.proofs.Greatest.{NeverBack, Candidates, le-greatest, kept, dropped, between, found}
-use Rattle.arith.proofs.Machine.{field}
+use Rattle.arith.proofs.Machine.{field, nat, fits}
 use Rattle.section.specs.declared.Layer.{Layer}
 use Rattle.equilibrium.specs.Refusals.{carries}
 use Rattle.section.specs.Code.Columns.{layersIn}
@@ -99,6 +99,11 @@ first-guess-requires c κs =
     let t = s .pre .0 in
     ((t .usable .bounded, t .usable .count-high), (omega (arith, t .area, area-high (t .usable)), rw (toZ-ofZ (s .fits .n)) (t .load)))
 
+cast-guess : tie.Need-cast-guess Inv-loop μ-loop
+cast-guess c =
+    let h : c .first-guess .result ≤ 20000 = omega (arith, c .first-guess .ensures .1, c .before .before .pre .0 .usable .bounded .h-high) in
+    fits (nat (c .first-guess .result) h tt) tt
+
 loop-holds : tie.Need-loop-holds Inv-loop μ-loop
 loop-holds c =
     let s = c .before .before in
@@ -177,6 +182,7 @@ by-pairs-spec =
     μ-loop
     mul-hi
     first-guess-requires
+    cast-guess
     loop-holds
     chosen-requires
     excesses-requires

@@ -5,12 +5,13 @@ use borrow.Author.Needs.{needs}
 use Rattle.arith.proofs.Machine.{field}
 use Rattle.section.specs.Section.{counted}
 use Rattle.section.specs.Refusals.{accepted, refusalNumber}
+use Rattle.section.specs.Code.Columns.{Apart}
 use Rattle.section.proofs.InColumns.{in-columns}
 use Rattle.section.proofs.Usable.{section-refusal}
 use Rattle.section.proofs.refusals.section_refusal.Statement.{statement}
 use Rattle.section.proofs.refusals.section_refusal.Tie as tie
 
--- the section taken apart is asked as it is
+-- the section taken apart is asked as it is; its sixteen places are read off the machine's type
 module _ (c : tie.After-accept) where
   abbrev apart : tie.After-take-apart
   apart = c .before .before .before .before .before
@@ -18,12 +19,16 @@ module _ (c : tie.After-accept) where
   abbrev start : tie.Start
   start = apart .before .before .before .before .before
 
+  taken : Apart (start .args .s) (apart .take-apart .last .1 .0) (apart .take-apart .last .1 .1 .0)
+  taken =
+      let e = apart .take-apart .ensures in
+      record { places = simp length-map at (start .good .0 .1 .1 .0 .1 .0 .1); depths-are = e .0; areas-are = e .1 }
+
   answer-is : c .accept .result ≡ accepted (counted (start .args .s))
   answer-is =
-      let s = start .args .s in
-      c .accept .ensures .0 ∙ ap accepted (in-columns s (simp length-map at (start .good .0 .1 .1 .0 .1 .0 .1))
-      (field (s .width) (c .before .before .struct-told .given .1 .0 .1)) (field (s .height) (c .before .struct-told2 .given .1 .1 .0 .1))
-      (apart .take-apart .ensures))
+      let width = field (start .args .s .width) (c .before .before .struct-told .given .1 .0 .1) in
+      let height = field (start .args .s .height) (c .before .struct-told2 .given .1 .1 .0 .1) in
+      c .accept .ensures .0 ∙ ap accepted (in-columns taken width height)
 
 take-apart-requires : tie.Need-take-apart-requires
 take-apart-requires c κs = search needs

@@ -1,10 +1,10 @@
--- `equilibrium::guess::tangent` is safe: the two excesses are small enough, and the divisor is above 0. Assumes nothing.
+-- `equilibrium::search::tangent` is safe: the two excesses are small enough, and the divisor is above 0. Assumes nothing.
 use borrow.Author.Needs.{needs}
 use lib.IntN.{pos}
 use Rattle.arith.proofs.Test.{divides}
 use Rattle.arith.proofs.Machine.{M, nat, var, num, _⊟_, quot, fits}
-use Rattle.equilibrium.proofs.guess.tangent.Statement.{statement}
-use Rattle.equilibrium.proofs.guess.tangent.Tie as tie
+use Rattle.equilibrium.proofs.search.tangent.Statement.{statement}
+use Rattle.equilibrium.proofs.search.tangent.Tie as tie
 
 module _ (c : tie.Start) where
   abbrev at : M
