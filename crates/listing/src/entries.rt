@@ -1,6 +1,5 @@
 // The values of a line, for each case of what is read.
 use clauses::Listed;
-use clauses::numbers::checked_listed;
 use clauses::numbers::refused_listed;
 use record::Reading;
 ghost use mathlib.Core.Path.{_≡_};
@@ -13,7 +12,7 @@ pub fn entry_of(reading: Reading) -> Listed
     if reading.refusal == 0 {
         let section = reading.section;
         let load = reading.load;
-        checked_listed(clauses::check_section(section, load))
+        clauses::check_listed(section, load)
     } else {
         refused_listed(reading.refusal)
     }

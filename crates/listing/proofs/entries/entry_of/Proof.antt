@@ -1,5 +1,5 @@
 -- `listing::entries::entry_of` meets its contract. Assumes nothing.
-use mathlib.Core.Path.{_≡_, ap, _∙_}
+use mathlib.Core.Path.{_≡_, _∙_}
 use mathlib.Core.Bool.{Bool, true, false, cond}
 use lib.Dec.{eqb}
 use Rattle.record.specs.declared.Reading.{Reading}
@@ -10,11 +10,8 @@ use borrow.Author.Needs.{needs}
 use Rattle.listing.proofs.entries.entry_of.Statement.{statement}
 use Rattle.listing.proofs.entries.entry_of.Tie as tie
 
-check-section-requires : tie.Need-check-section-requires
-check-section-requires c κs = search needs
-
-checked-listed-requires : tie.Need-checked-listed-requires
-checked-listed-requires c κs = search needs
+check-listed-requires : tie.Need-check-listed-requires
+check-listed-requires c κs = search needs
 
 refused-listed-requires : tie.Need-refused-listed-requires
 refused-listed-requires c κs = search needs
@@ -25,10 +22,9 @@ by-refusal r t e = rw (← e)
 
 returns : tie.Need-returns
 returns c =
-    let k = c .before in
-    let f = k .before .before .before in
+    let f = c .before .before .before in
     let r = f .before .before .args .reading in
-    c .checked-listed .ensures ∙ ap listed (k .check-section .ensures .0) ∙ by-refusal r true (eq-eqb _ 0 (f .if1 .taken))
+    c .check-listed .ensures ∙ by-refusal r true (eq-eqb _ 0 (f .if1 .taken))
 
 returns-2 : tie.Need-returns-2
 returns-2 c = c .refused-listed .ensures ∙ by-refusal (c .before .before .before .args .reading) false (ne-eqb _ 0 (c .before .if1 .left))
@@ -37,8 +33,7 @@ pub entry-of-spec : {M : Type 1} → statement M
 entry-of-spec =
     tie.close
     (tie.spec
-    check-section-requires
-    checked-listed-requires
+    check-listed-requires
     refused-listed-requires
     returns
     returns-2)

@@ -1,9 +1,9 @@
--- `engine::salwoerk_check` meets its contract. Assumes nothing.
+-- `clauses::check_listed` meets its contract. Assumes nothing.
 use mathlib.Core.Path.{ap, _∙_}
 use Rattle.clauses.specs.Check.{listed}
 use borrow.Author.Needs.{needs}
-use Rattle.engine.proofs.salwoerk_check.Statement.{statement}
-use Rattle.engine.proofs.salwoerk_check.Tie as tie
+use Rattle.clauses.proofs.check_listed.Statement.{statement}
+use Rattle.clauses.proofs.check_listed.Tie as tie
 
 check-section-requires : tie.Need-check-section-requires
 check-section-requires c κs = search needs
@@ -14,5 +14,5 @@ checked-listed-requires c κs = search needs
 returns : tie.Need-returns
 returns c = c .checked-listed .ensures ∙ ap listed (c .before .check-section .ensures .0)
 
-pub salwoerk-check-spec : {M : Type 1} → statement M
-salwoerk-check-spec = tie.close (tie.spec check-section-requires checked-listed-requires returns)
+pub check-listed-spec : {M : Type 1} → statement M
+check-listed-spec = tie.close (tie.spec check-section-requires checked-listed-requires returns)
