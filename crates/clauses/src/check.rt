@@ -20,6 +20,7 @@ ghost use Rattle.section.specs.Code.Usable.{Usable, LoadOk};
 ghost use Rattle.section.specs.Code.Columns.{layersIn, areaSum};
 ghost use Rattle.section.specs.Turned.{turned};
 ghost use Rattle.equilibrium.specs.Code.Whole.{DepthOk, carriesAtOne};
+ghost use Rattle.clauses.specs.Compressed.{ofCompressed};
 ghost use Rattle.clauses.specs.Check.{faceAt, reportOf, reportAt, checkFaces};
 ghost use Rattle.clauses.specs.Code.Ranges.{Faces};
 
@@ -68,12 +69,19 @@ fn face_at(x: Design, count: usize, depths: &[u32; 16], areas: &[u32; 16], u: u6
     }
 }
 
+// Of two faces, the one for M ≥ 0 and the one for M < 0.
+fn of_compressed(m: i64, top: Face, bottom: Face) -> Face
+    ensures { λ r. ⌜ r ≡ ofCompressed m top bottom ⌝ }
+{
+    if 0 <= m { top } else { bottom }
+}
+
 // What is reported at the depths t from the top and b from the bottom.
-fn report_at(
+fn report_at<'a>(
     x: Design,
     count: usize,
-    top: &[u32; 16],
-    bottom: &[u32; 16],
+    top: &'a [u32; 16],
+    bottom: &'a [u32; 16],
     areas: &[u32; 16],
     steel: u64,
     l: Load,
@@ -88,19 +96,18 @@ fn report_at(
     let high = face_at(x, count, top, areas, t);
     let low = face_at(x, count, bottom, areas, b);
     let moment = verdicts::moment_verdict(l.m, high.mrd, low.mrd);
-    if 0 <= l.m {
-        report_of(x, count, top, areas, steel, l, high, low, moment)
-    } else {
-        report_of(x, count, bottom, areas, steel, l, low, high, moment)
-    }
+    let depths = if 0 <= l.m { top } else { bottom };
+    let face = of_compressed(l.m, high, low);
+    let other = of_compressed(l.m, low, high);
+    report_of(x, count, depths, areas, steel, l, face, other, moment)
 }
 
 // 12 or the report, where depth 1 carries: one search for each face.
-fn check_faces(
+fn check_faces<'a>(
     x: Design,
     count: usize,
-    top: &[u32; 16],
-    bottom: &[u32; 16],
+    top: &'a [u32; 16],
+    bottom: &'a [u32; 16],
     areas: &[u32; 16],
     steel: u64,
     l: Load,

@@ -1,13 +1,18 @@
 -- `clauses::check::report_at` meets its contract: each face at its depth, by the sign of M. Assumes nothing.
+use mathlib.Core.Bool.{Bool, true, false, cond}
 use mathlib.Core.List.{List}
+use mathlib.Core.Logic.{⊎-elim}
 use mathlib.Core.Path.{_≡_, sym, ap, subst, _∙_}
-use lib.IntN.{pos}
+use borrow.Author.Needs.{needs}
+use lib.IntN.{ℤ, pos}
 use lib.Signed.{leZ}
 use Rattle.arith.proofs.Machine.{field}
 use Rattle.section.specs.declared.Layer.{Layer}
-use Rattle.section.specs.Code.Columns.{layersIn}
+use Rattle.section.specs.Code.Columns.{layersIn, areaSum}
+use Rattle.section.specs.Code.Usable.{Usable}
 use Rattle.equilibrium.specs.Code.Whole.{DepthOk}
 use Rattle.clauses.specs.declared.Face.{Face}
+use Rattle.clauses.specs.Compressed.{ofCompressed}
 use Rattle.clauses.specs.Verdicts.{first}
 use Rattle.clauses.specs.Check.{faceAt, reportOf, reportAt}
 use Rattle.clauses.proofs.check.report_at.Statement.{statement}
@@ -54,39 +59,77 @@ moment-verdict-requires c κs =
     let s = c .before .before .before .before .before in
     rw (field (s .args .l .m) (c .before .before .struct-told .given .1 .0 .1)) (s .pre .0 .loaded .m-in)
 
+of-compressed-requires : tie.Need-of-compressed-requires
+of-compressed-requires c κs = search needs
+
+of-compressed-requires-2 : tie.Need-of-compressed-requires-2
+of-compressed-requires-2 c κs = search needs
+
+-- the layers as the compressed face sees them
+module _ (j : tie.Joined1) where
+  abbrev judged : tie.After-moment-verdict
+  judged = j .before .before .before
+
+  abbrev s : tie.Start
+  s = start judged
+
+  abbrev M : ℤ
+  M = s .args .l .m
+
+  layers-are : layersIn (s .args .count) (j .if1 .depths .now) (s .args .areas .now) ≡ ofCompressed M (tops s) (bottoms s)
+  layers-are =
+      let read = sym (ap (leZ (pos 0)) (field M (j .before .struct-told4 .given .1 .0 .1))) in
+      ⊎-elim (λ w. ap (λ d. layersIn (s .args .count) (d .now) (s .args .areas .now)) (w .1) ∙ chosen-top (read ∙ w .0 .taken))
+      (λ w. ap (λ d. layersIn (s .args .count) (d .now) (s .args .areas .now)) (w .1) ∙ chosen-bottom (read ∙ w .0 .left))
+      (j .if1 .came)
+    where
+      chosen-top : leZ (pos 0) M ≡ true → tops s ≡ ofCompressed M (tops s) (bottoms s)
+      chosen-top e = simp e
+
+      chosen-bottom : leZ (pos 0) M ≡ false → bottoms s ≡ ofCompressed M (tops s) (bottoms s)
+      chosen-bottom e = simp e
+
+  usable : (t : Bool) → Usable (s .args .x) (s .args .count) (cond t (tops s) (bottoms s))
+  usable true = s .pre .0 .of-top .usable
+  usable false = s .pre .0 .of-bottom .usable
+
+  area-is : (t : Bool) → s .args .steel ≡ areaSum (cond t (tops s) (bottoms s))
+  area-is true = s .pre .0 .of-top .area
+  area-is false = s .pre .0 .of-bottom .area
+
+  depth-ok : (t : Bool) → DepthOk (s .args .x) (cond t (top judged) (bottom judged) .u)
+  depth-ok true = s .pre .1 .0
+  depth-ok false = s .pre .1 .1
+
+-- its face and the other
+module _ (c : tie.After-of-compressed2) where
+  abbrev joined : tie.Joined1
+  joined = c .before .before .before .before
+
+  face-is : c .before .before .of-compressed .result ≡ ofCompressed (M joined) (top (judged joined)) (bottom (judged joined))
+  face-is = c .before .before .of-compressed .ensures
+      ∙ (λ i. ofCompressed (field (M joined) (c .before .before .before .struct-told5 .given .1 .0 .1) i)
+      (high (judged joined) .face-at .ensures i) (low (judged joined) .face-at2 .ensures i))
+
+  other-is : c .of-compressed2 .result ≡ ofCompressed (M joined) (bottom (judged joined)) (top (judged joined))
+  other-is = c .of-compressed2 .ensures
+      ∙ (λ i. ofCompressed (field (M joined) (c .before .struct-told6 .given .1 .0 .1) i)
+      (low (judged joined) .face-at2 .ensures i) (high (judged joined) .face-at .ensures i))
+
 report-of-requires : tie.Need-report-of-requires
 report-of-requires c κs =
-    let v = c .before .before .before in
-    let s = start v in
-    let depth = subst (DepthOk (s .args .x)) (λ i. sym (high v .face-at .ensures) i .u) (s .pre .1 .0) in
-    (s .pre .0 .of-top .usable, (s .pre .0 .of-top .area, (s .pre .0 .loaded, depth)))
-
-report-of-requires-2 : tie.Need-report-of-requires-2
-report-of-requires-2 c κs =
-    let v = c .before .before .before in
-    let s = start v in
-    let depth = subst (DepthOk (s .args .x)) (λ i. sym (low v .face-at2 .ensures) i .u) (s .pre .1 .1) in
-    (s .pre .0 .of-bottom .usable, (s .pre .0 .of-bottom .area, (s .pre .0 .loaded, depth)))
+    let j = joined c in
+    let t = leZ (pos 0) (M j) in
+    let depth = subst (DepthOk (s j .args .x)) (λ i. sym (face-is c) i .u) (depth-ok j t) in
+    (rw (layers-are j) (usable j t), (rw (layers-are j) (area-is j t), (s j .pre .0 .loaded, depth)))
 
 returns : tie.Need-returns
 unfolding reportAt
 returns c =
-    let t = c .before in
-    let v = t .before .before .before in
-    let a = start v .args in
+    let j = joined (c .before) in
+    let a = s j .args in
     c .report-of .ensures
-    ∙ (λ i. reportOf (a .x) (tops (start v)) (a .l) (high v .face-at .ensures i) (low v .face-at2 .ensures i) (moment-is v i))
-    ∙ simp (sym (ap (leZ (pos 0)) (field (a .l .m) (t .before .struct-told4 .given .1 .0 .1))) ∙ t .if1 .taken)
-
-returns-2 : tie.Need-returns-2
-unfolding reportAt
-returns-2 c =
-    let t = c .before in
-    let v = t .before .before .before in
-    let a = start v .args in
-    c .report-of2 .ensures
-    ∙ (λ i. reportOf (a .x) (bottoms (start v)) (a .l) (low v .face-at2 .ensures i) (high v .face-at .ensures i) (moment-is v i))
-    ∙ simp (sym (ap (leZ (pos 0)) (field (a .l .m) (t .before .struct-told4 .given .1 .0 .1))) ∙ t .if1 .left)
+    ∙ (λ i. reportOf (a .x) (layers-are j i) (a .l) (face-is (c .before) i) (other-is (c .before) i) (moment-is (judged j) i))
 
 pub report-at-spec : {M : Type 1} → statement M
 report-at-spec =
@@ -95,7 +138,7 @@ report-at-spec =
     face-at-requires
     face-at-requires-2
     moment-verdict-requires
+    of-compressed-requires
+    of-compressed-requires-2
     report-of-requires
-    report-of-requires-2
-    returns
-    returns-2)
+    returns)
