@@ -45,7 +45,7 @@ module _ (u : ℕ) where
   unfolding tensionLayers
   tension-step f l ls = next-total f (inTension u l) l (tensionLayers u ls)
 
-  pub share : (t : Bool) (n : ℕ) → cond t n 0 ≤ n
+  share : (t : Bool) (n : ℕ) → cond t n 0 ≤ n
   share true n = omega arith
   share false n = omega arith
 
@@ -139,24 +139,12 @@ pub record Summed (u : ℕ) (ls zs : List Layer) (area moment : ℕ) : Type 0 wh
   pub area-is : area + As u zs ≡ As u ls
   pub moment-is : moment + firstMoment (tensionLayers u zs) ≡ firstMoment (tensionLayers u ls)
 
-times : (t : Bool) (a d : ℕ) → cond t (a * d) 0 ≡ cond t a 0 * d
-times true a d = refl
-times false a d = omega arith
-
 pub sum-step : {u : ℕ} {ls zs ys : List Layer} {l : Layer} {area moment a m : ℕ} → zs ≡ l ∷ ys → a ≡ cond (inTension u l) (l .area) 0
-    → m ≡ a * l .depth →
+    → m ≡ cond (inTension u l) (l .area * l .depth) 0 →
     Summed u ls zs area moment → Summed u ls ys (area + a) (moment + m)
-unfolding total
-sum-step {u} {ls} {zs} {ys} {l} {area} {moment} {a} nx e f inv = record {
-  area-is = omega (arith, rw nx at (inv .area-is), tension-step u (λ l. l .area) l ys);
-  moment-is = omega (
-    arith,
-    rw nx at (inv .moment-is),
-    tension-step u (λ l. l .area * l .depth) l ys,
-    times (inTension u l) (l .area) (l .depth),
-    ap
-        (λ (n : ℕ). n * l .depth) e,
-  );
+sum-step {u} {ys = ys} {l} nx e f inv = record {
+  area-is = omega (arith, rw nx at (inv .area-is), tension-step u (λ l. l .area) l ys, e);
+  moment-is = omega (arith, rw nx at (inv .moment-is), tension-step u (λ l. l .area * l .depth) l ys, f);
 }
 
 pub sum-done : {u : ℕ} {ls zs : List Layer} {area moment : ℕ} → zs ≡ [] → Summed u ls zs area moment → Summed u ls [] area moment

@@ -1,9 +1,10 @@
 // Tension reinforcement: As and dm. Document 01, "Verdicts".
 ghost use mathlib.Core.Bool.{cond};
 ghost use mathlib.Core.Path.{_≡_};
+ghost use lib.Dec.{ltb};
 ghost use Prim.Native.Nat.{_*_, _≤_};
 ghost use Rattle.section.specs.Code.Columns.{layersIn};
-ghost use Rattle.clauses.specs.Tension.{inTension, tensionLayers, firstMoment, As, dm};
+ghost use Rattle.clauses.specs.Tension.{tensionLayers, firstMoment, As, dm};
 ghost use Rattle.clauses.specs.Code.Ranges.{Counts};
 
 // The sums over the layers in tension: area and first moment.
@@ -18,23 +19,27 @@ pub struct Reinforcement {
     pub depth: u64,
 }
 
-// The layer's area if it is in tension. A function, so that the loop over layers has no branch.
-fn tension_area(u: u64, depth: u32, area: u32) -> u64
-    ensures { λ r. ⌜ r ≡ cond (inTension u (record { depth = depth; area = area })) area 0 ⌝ }
+// Is a layer in tension?
+fn in_tension(u: u64, depth: u32) -> bool
+    ensures { λ r. ⌜ r ≡ ltb u (10 * depth) ⌝ }
 {
-    if u < 10 * (depth as u64) {
-        area as u64
-    } else {
-        0
-    }
+    u < 10 * (depth as u64)
 }
 
-// Its first moment, for the area that counts.
-fn first_moment(area: u64, depth: u32) -> u64
+// A layer's first moment.
+fn first_moment(area: u32, depth: u32) -> u64
     requires { ⌜ (area ≤ 20000) × (depth ≤ 2000) ⌝ }
     ensures { λ r. ⌜ r ≡ area * depth ⌝ }
 {
-    area * depth as u64
+    area as u64 * depth as u64
+}
+
+// A number of a layer that counts, else 0. Both numbers of a layer are at hand before they are chosen: the loop has no branch, which would
+// follow no rule.
+fn kept(counts: bool, x: u64) -> u64
+    ensures { λ r. ⌜ r ≡ cond counts x 0 ⌝ }
+{
+    if counts { x } else { 0 }
 }
 
 // The one loop over the layers.
@@ -48,9 +53,10 @@ fn layer_sums(count: usize, depths: &[u32; 16], areas: &[u32; 16], u: u64) -> Su
     let mut i: usize = 0;
     while i < count {
         let depth = depths[i];
-        let a = tension_area(u, depth, areas[i]);
-        area += a;
-        moment += first_moment(a, depth);
+        let a = areas[i];
+        let counts = in_tension(u, depth);
+        area += kept(counts, a as u64);
+        moment += kept(counts, first_moment(a, depth));
         i += 1;
     }
     Sums {

@@ -1,8 +1,8 @@
 -- `clauses::tension::layer_sums` meets its contract: each sum so far, with what is left, is the sum over all. Assumes nothing.
-use Prim.Native.Nat.{_+_, _-_, _≤_}
-use mathlib.Core.Bool.{true}
+use Prim.Native.Nat.{_+_, _-_, _*_, _≤_}
+use mathlib.Core.Bool.{Bool, true, cond}
 use mathlib.Core.List.{List, _∷_}
-use mathlib.Core.Path.{_≡_}
+use mathlib.Core.Path.{_≡_, ap, _∙_}
 use native.Mathlib.Omega.{arith}
 use lib.ListN.{drop}
 use borrow.Author.Needs.{needs}
@@ -13,7 +13,7 @@ use Rattle.section.proofs.OneLayer.{layer-high, steel-high}
 use Rattle.section.proofs.Walk.{all-at}
 use Rattle.section.proofs.InColumns.{next-in, over-in}
 use Rattle.clauses.specs.Tension.{inTension, tensionLayers, total, As}
-use Rattle.clauses.proofs.Layers.{Summed, sum-step, sum-done, share, tension-step, As-high, moment-most}
+use Rattle.clauses.proofs.Layers.{Summed, sum-step, sum-done, tension-step, As-high, moment-most}
 use Rattle.clauses.proofs.tension.layer_sums.Statement.{statement}
 use Rattle.clauses.proofs.tension.layer_sums.Tie as tie
 
@@ -44,13 +44,27 @@ module _ (c : tie.In-loop Inv-loop μ-loop) where
   area-ok : areaOk layer ≡ true
   area-ok = all-at areaOk (c .before .loop .i) ls (start .pre .areas) next
 
--- the sums with it
-summed : (c : tie.After-first-moment Inv-loop μ-loop) → (let t = c .before in let l = t .before .before .before in
-    Summed (start l .args .u) (ls l) (drop (l .before .loop .i + 1) (ls l)) (l .before .loop .area + t .tension-area .result)
-    (l .before .loop .moment + c .first-moment .result))
-summed c =
-    let l = c .before .before .before .before in
-    sum-step (next l) (c .before .tension-area .ensures) (c .first-moment .ensures) (l .before .loop .inv .1)
+-- what it adds to either sum
+module _ (c : tie.After-kept Inv-loop μ-loop) where
+  abbrev at : tie.In-loop Inv-loop μ-loop
+  at = c .before .before .before .before
+
+  area-kept : c .kept .result ≡ cond (inTension (start at .args .u) (layer at)) (layer at .area) 0
+  area-kept = c .kept .ensures ∙ ap (λ (t : Bool). cond t (layer at .area) 0) (c .before .in-tension .ensures)
+
+module _ (c : tie.After-kept2 Inv-loop μ-loop) where
+  abbrev before : tie.After-kept Inv-loop μ-loop
+  before = c .before .before
+
+  abbrev l : tie.In-loop Inv-loop μ-loop
+  l = at before
+
+  moment-kept : c .kept2 .result ≡ cond (inTension (start l .args .u) (layer l)) (layer l .area * layer l .depth) 0
+  moment-kept = c .kept2 .ensures ∙ (λ i. cond (before .before .in-tension .ensures i) (c .before .first-moment .ensures i) 0)
+
+  summed : Summed (start l .args .u) (ls l) (drop (l .before .loop .i + 1) (ls l)) (l .before .loop .area + before .kept .result)
+      (l .before .loop .moment + c .kept2 .result)
+  summed = sum-step (next l) (area-kept before) moment-kept (l .before .loop .inv .1)
 
 loop-holds : tie.Need-loop-holds Inv-loop μ-loop
 loop-holds c = search needs
@@ -61,40 +75,38 @@ mul-depth c = search needs
 element-copy-out-depth : tie.Need-element-copy-out-depth Inv-loop μ-loop
 element-copy-out-depth c = search needs
 
-mul-tension-area : tie.Need-mul-tension-area Inv-loop μ-loop
-mul-tension-area c = search needs
+mul-a : tie.Need-mul-a Inv-loop μ-loop
+mul-a c = search needs
 
-element-copy-out-tension-area : tie.Need-element-copy-out-tension-area Inv-loop μ-loop
-element-copy-out-tension-area c = search needs
+element-copy-out-a : tie.Need-element-copy-out-a Inv-loop μ-loop
+element-copy-out-a c = search needs
 
-tension-area-requires : tie.Need-tension-area-requires Inv-loop μ-loop
-tension-area-requires c κs = search needs
+in-tension-requires : tie.Need-in-tension-requires Inv-loop μ-loop
+in-tension-requires c κs = search needs
+
+cast-kept : tie.Need-cast-kept Inv-loop μ-loop
+cast-kept c = let l = c .before .before .before in omega (arith, steel-high (layer l) (area-ok l))
+
+kept-requires : tie.Need-kept-requires Inv-loop μ-loop
+kept-requires c κs = search needs
 
 add-area : tie.Need-add-area Inv-loop μ-loop
 add-area c =
-    let l = c .before .before .before in
+    let l = at c in
     let m : As (start l .args .u) (ls l) ≤ 320000 = As-high (ls l) (start l .pre) (start l .args .u) in
-    omega (
-      arith,
-      tension-step (start l .args .u) (λ l. l .area) (layer l) (drop (l .before .loop .i + 1) (ls l)),
-      rw (next l) at
-          (l .before .loop .inv .1 .area-is),
-      c .tension-area .ensures,
-    )
+    let step = tension-step (start l .args .u) (λ l. l .area) (layer l) (drop (l .before .loop .i + 1) (ls l)) in
+    omega (arith, step, rw (next l) at (l .before .loop .inv .1 .area-is), area-kept c)
 
 first-moment-requires : tie.Need-first-moment-requires Inv-loop μ-loop
 first-moment-requires c κs =
-    let l = c .before .before .before in
-    let most = share (start l .args .u) (inTension (start l .args .u) (layer l)) (layer l .area) in
-    (omega (arith, c .tension-area .ensures, most, steel-high (layer l) (area-ok l)), omega (arith, layer-high 2000 (layer l) (depth-ok l)))
+    let l = at c in
+    (omega (arith, steel-high (layer l) (area-ok l)), omega (arith, layer-high 2000 (layer l) (depth-ok l)))
+
+kept-requires-2 : tie.Need-kept-requires-2 Inv-loop μ-loop
+kept-requires-2 c κs = search needs
 
 add-moment : tie.Need-add-moment Inv-loop μ-loop
-add-moment c = omega (
-  arith,
-  summed c .moment-is,
-  moment-most (ls (c .before .before .before .before)) (start (c .before .before .before .before) .pre)
-      (start (c .before .before .before .before) .args .u),
-)
+add-moment c = omega (arith, summed c .moment-is, moment-most (ls (l c)) (start (l c) .pre) (start (l c) .args .u))
 
 add-i : tie.Need-add-i Inv-loop μ-loop
 add-i c = search needs
@@ -122,11 +134,14 @@ layer-sums-spec =
     loop-holds
     mul-depth
     element-copy-out-depth
-    mul-tension-area
-    element-copy-out-tension-area
-    tension-area-requires
+    mul-a
+    element-copy-out-a
+    in-tension-requires
+    cast-kept
+    kept-requires
     add-area
     first-moment-requires
+    kept-requires-2
     add-moment
     add-i
     loop-less
