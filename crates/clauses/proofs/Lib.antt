@@ -1,3 +1,4 @@
 pub mod Layers
 pub mod Checking
 pub mod Laws
+pub mod Compressed

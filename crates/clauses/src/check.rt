@@ -76,6 +76,13 @@ fn of_compressed(m: i64, top: Face, bottom: Face) -> Face
     if 0 <= m { top } else { bottom }
 }
 
+// The same of the depths that they see.
+fn compressed_depths<'a>(m: i64, top: &'a [u32; 16], bottom: &'a [u32; 16]) -> &'a [u32; 16]
+    ensures { λ r. ⌜ now r ≡ ofCompressed m (now (top .entry)) (now (bottom .entry)) ⌝ }
+{
+    if 0 <= m { top } else { bottom }
+}
+
 // What is reported at the depths t from the top and b from the bottom.
 fn report_at<'a>(
     x: Design,
@@ -96,7 +103,7 @@ fn report_at<'a>(
     let high = face_at(x, count, top, areas, t);
     let low = face_at(x, count, bottom, areas, b);
     let moment = verdicts::moment_verdict(l.m, high.mrd, low.mrd);
-    let depths = if 0 <= l.m { top } else { bottom };
+    let depths = compressed_depths(l.m, top, bottom);
     let face = of_compressed(l.m, high, low);
     let other = of_compressed(l.m, low, high);
     report_of(x, count, depths, areas, steel, l, face, other, moment)

@@ -1,7 +1,7 @@
 -- `clauses::check::report_at` meets its contract: each face at its depth, by the sign of M. Assumes nothing.
+use Prim.Native.Nat.{ℕ}
 use mathlib.Core.Bool.{Bool, true, false, cond}
 use mathlib.Core.List.{List}
-use mathlib.Core.Logic.{⊎-elim}
 use mathlib.Core.Path.{_≡_, sym, ap, subst, _∙_}
 use borrow.Author.Needs.{needs}
 use lib.IntN.{ℤ, pos}
@@ -15,6 +15,7 @@ use Rattle.clauses.specs.declared.Face.{Face}
 use Rattle.clauses.specs.Compressed.{ofCompressed}
 use Rattle.clauses.specs.Verdicts.{first}
 use Rattle.clauses.specs.Check.{faceAt, reportOf, reportAt}
+use Rattle.clauses.proofs.Compressed.{through}
 use Rattle.clauses.proofs.check.report_at.Statement.{statement}
 use Rattle.clauses.proofs.check.report_at.Tie as tie
 
@@ -59,6 +60,9 @@ moment-verdict-requires c κs =
     let s = c .before .before .before .before .before in
     rw (field (s .args .l .m) (c .before .before .struct-told .given .1 .0 .1)) (s .pre .0 .loaded .m-in)
 
+compressed-depths-requires : tie.Need-compressed-depths-requires
+compressed-depths-requires c κs = search needs
+
 of-compressed-requires : tie.Need-of-compressed-requires
 of-compressed-requires c κs = search needs
 
@@ -66,9 +70,9 @@ of-compressed-requires-2 : tie.Need-of-compressed-requires-2
 of-compressed-requires-2 c κs = search needs
 
 -- the layers as the compressed face sees them
-module _ (j : tie.Joined1) where
+module _ (k : tie.After-compressed-depths) where
   abbrev judged : tie.After-moment-verdict
-  judged = j .before .before .before
+  judged = k .before .before
 
   abbrev s : tie.Start
   s = start judged
@@ -76,18 +80,14 @@ module _ (j : tie.Joined1) where
   abbrev M : ℤ
   M = s .args .l .m
 
-  layers-are : layersIn (s .args .count) (j .if1 .depths .now) (s .args .areas .now) ≡ ofCompressed M (tops s) (bottoms s)
-  layers-are =
-      let read = sym (ap (leZ (pos 0)) (field M (j .before .struct-told4 .given .1 .0 .1))) in
-      ⊎-elim (λ w. ap (λ d. layersIn (s .args .count) (d .now) (s .args .areas .now)) (w .1) ∙ chosen-top (read ∙ w .0 .taken))
-      (λ w. ap (λ d. layersIn (s .args .count) (d .now) (s .args .areas .now)) (w .1) ∙ chosen-bottom (read ∙ w .0 .left))
-      (j .if1 .came)
-    where
-      chosen-top : leZ (pos 0) M ≡ true → tops s ≡ ofCompressed M (tops s) (bottoms s)
-      chosen-top e = simp e
+  abbrev seen : List ℕ → List Layer
+  seen ds = layersIn (s .args .count) ds (s .args .areas .now)
 
-      chosen-bottom : leZ (pos 0) M ≡ false → bottoms s ≡ ofCompressed M (tops s) (bottoms s)
-      chosen-bottom e = simp e
+  layers-are : seen (k .compressed-depths .result .now) ≡ ofCompressed M (tops s) (bottoms s)
+  layers-are =
+      let read = field M (k .before .struct-told4 .given .1 .0 .1) in
+      ap seen (k .compressed-depths .ensures ∙ (λ i. ofCompressed (read i) (s .args .top .now) (s .args .bottom .now)))
+      ∙ through seen M (s .args .top .now) (s .args .bottom .now)
 
   usable : (t : Bool) → Usable (s .args .x) (s .args .count) (cond t (tops s) (bottoms s))
   usable true = s .pre .0 .of-top .usable
@@ -103,33 +103,33 @@ module _ (j : tie.Joined1) where
 
 -- its face and the other
 module _ (c : tie.After-of-compressed2) where
-  abbrev joined : tie.Joined1
-  joined = c .before .before .before .before
+  abbrev chosen : tie.After-compressed-depths
+  chosen = c .before .before .before .before
 
-  face-is : c .before .before .of-compressed .result ≡ ofCompressed (M joined) (top (judged joined)) (bottom (judged joined))
+  face-is : c .before .before .of-compressed .result ≡ ofCompressed (M chosen) (top (judged chosen)) (bottom (judged chosen))
   face-is = c .before .before .of-compressed .ensures
-      ∙ (λ i. ofCompressed (field (M joined) (c .before .before .before .struct-told5 .given .1 .0 .1) i)
-      (high (judged joined) .face-at .ensures i) (low (judged joined) .face-at2 .ensures i))
+      ∙ (λ i. ofCompressed (field (M chosen) (c .before .before .before .struct-told5 .given .1 .0 .1) i)
+      (high (judged chosen) .face-at .ensures i) (low (judged chosen) .face-at2 .ensures i))
 
-  other-is : c .of-compressed2 .result ≡ ofCompressed (M joined) (bottom (judged joined)) (top (judged joined))
+  other-is : c .of-compressed2 .result ≡ ofCompressed (M chosen) (bottom (judged chosen)) (top (judged chosen))
   other-is = c .of-compressed2 .ensures
-      ∙ (λ i. ofCompressed (field (M joined) (c .before .struct-told6 .given .1 .0 .1) i)
-      (low (judged joined) .face-at2 .ensures i) (high (judged joined) .face-at .ensures i))
+      ∙ (λ i. ofCompressed (field (M chosen) (c .before .struct-told6 .given .1 .0 .1) i)
+      (low (judged chosen) .face-at2 .ensures i) (high (judged chosen) .face-at .ensures i))
 
 report-of-requires : tie.Need-report-of-requires
 report-of-requires c κs =
-    let j = joined c in
-    let t = leZ (pos 0) (M j) in
-    let depth = subst (DepthOk (s j .args .x)) (λ i. sym (face-is c) i .u) (depth-ok j t) in
-    (rw (layers-are j) (usable j t), (rw (layers-are j) (area-is j t), (s j .pre .0 .loaded, depth)))
+    let k = chosen c in
+    let t = leZ (pos 0) (M k) in
+    let depth = subst (DepthOk (s k .args .x)) (λ i. sym (face-is c) i .u) (depth-ok k t) in
+    (rw (layers-are k) (usable k t), (rw (layers-are k) (area-is k t), (s k .pre .0 .loaded, depth)))
 
 returns : tie.Need-returns
 unfolding reportAt
 returns c =
-    let j = joined (c .before) in
-    let a = s j .args in
+    let k = chosen (c .before) in
+    let a = s k .args in
     c .report-of .ensures
-    ∙ (λ i. reportOf (a .x) (layers-are j i) (a .l) (face-is (c .before) i) (other-is (c .before) i) (moment-is (judged j) i))
+    ∙ (λ i. reportOf (a .x) (layers-are k i) (a .l) (face-is (c .before) i) (other-is (c .before) i) (moment-is (judged k) i))
 
 pub report-at-spec : {M : Type 1} → statement M
 report-at-spec =
@@ -138,6 +138,7 @@ report-at-spec =
     face-at-requires
     face-at-requires-2
     moment-verdict-requires
+    compressed-depths-requires
     of-compressed-requires
     of-compressed-requires-2
     report-of-requires
