@@ -69,14 +69,14 @@ fn face_at(x: Design, count: usize, depths: &[u32; 16], areas: &[u32; 16], u: u6
     }
 }
 
-// Of two faces, the one for M ≥ 0 and the one for M < 0.
+// Of the top and the bottom, the face that M compresses; with the two exchanged, the other face.
 fn of_compressed(m: i64, top: Face, bottom: Face) -> Face
     ensures { λ r. ⌜ r ≡ ofCompressed m top bottom ⌝ }
 {
     if 0 <= m { top } else { bottom }
 }
 
-// The same of the depths that they see.
+// The depths as that face sees them.
 fn compressed_depths<'a>(m: i64, top: &'a [u32; 16], bottom: &'a [u32; 16]) -> &'a [u32; 16]
     ensures { λ r. ⌜ now r ≡ ofCompressed m (now (top .entry)) (now (bottom .entry)) ⌝ }
 {

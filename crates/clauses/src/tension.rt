@@ -19,7 +19,7 @@ pub struct Reinforcement {
     pub depth: u64,
 }
 
-// Is a layer in tension?
+// Is a layer in tension, 10·d > u?
 fn in_tension(u: u64, depth: u32) -> bool
     ensures { λ r. ⌜ r ≡ ltb u (10 * depth) ⌝ }
 {
