@@ -13,7 +13,7 @@ ghost use mathlib.Core.Path.{_≡_};
 ghost use Rattle.arith.specs.Chain.{firstFailing};
 ghost use Rattle.section.specs.Section.{counted};
 ghost use Rattle.clauses.specs.Refusals.{checkTests};
-ghost use Rattle.clauses.specs.Check.{checkOf, listed, refusalNumber};
+ghost use Rattle.clauses.specs.Check.{checkOf, refusalNumber};
 ghost use Rattle.clauses.specs.Accuracy.{AccurateCheck};
 
 // What a clause says of the section: 0, 1 and 2 of document 01.
@@ -96,11 +96,4 @@ pub fn check_section(s: Section, l: Load) -> Checked
             }
         }
     }
-}
-
-// Check, in document 01's numbers: what C and the list are given.
-pub fn check_listed(s: Section, l: Load) -> Listed
-    ensures { λ r. ⌜ r ≡ listed (checkOf s l) ⌝ }
-{
-    numbers::checked_listed(check_section(s, l))
 }

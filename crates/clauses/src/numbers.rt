@@ -4,8 +4,11 @@ use super::Face;
 use super::Listed;
 use super::Report;
 use super::Verdict;
+use super::check_section;
+use section::Load;
+use section::Section;
 ghost use mathlib.Core.Path.{_≡_};
-ghost use Rattle.clauses.specs.Check.{refusedListed, listed};
+ghost use Rattle.clauses.specs.Check.{refusedListed, listed, checkOf};
 ghost use Rattle.clauses.specs.Verdicts.{numberOf};
 
 pub fn verdict_number(v: Verdict) -> u64
@@ -58,11 +61,18 @@ fn report_listed(report: Report) -> Listed
     }
 }
 
-pub fn checked_listed(c: Checked) -> Listed
+fn checked_listed(c: Checked) -> Listed
     ensures { λ r. ⌜ r ≡ listed c ⌝ }
 {
     match c {
         Checked::Refused(k) => refused_listed(k as u64),
         Checked::Done(report) => report_listed(report),
     }
+}
+
+// Check in these numbers: what C and the list are given.
+pub fn check_listed(s: Section, l: Load) -> Listed
+    ensures { λ r. ⌜ r ≡ listed (checkOf s l) ⌝ }
+{
+    checked_listed(check_section(s, l))
 }

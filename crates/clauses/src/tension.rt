@@ -1,5 +1,4 @@
 // Tension reinforcement: As and dm. Document 01, "Verdicts".
-ghost use mathlib.Core.Bool.{cond};
 ghost use mathlib.Core.Path.{_≡_};
 ghost use lib.Dec.{ltb};
 ghost use Prim.Native.Nat.{_*_, _≤_};
@@ -34,15 +33,7 @@ fn first_moment(area: u32, depth: u32) -> u64
     area as u64 * depth as u64
 }
 
-// A number of a layer that counts, else 0. Both numbers of a layer are at hand before they are chosen: the loop has no branch, which would
-// follow no rule.
-fn kept(counts: bool, x: u64) -> u64
-    ensures { λ r. ⌜ r ≡ cond counts x 0 ⌝ }
-{
-    if counts { x } else { 0 }
-}
-
-// The one loop over the layers.
+// The one loop over the layers. Which of them are in tension follows no rule, so it has no branch.
 fn layer_sums(count: usize, depths: &[u32; 16], areas: &[u32; 16], u: u64) -> Sums
     requires { ⌜ Counts count (layersIn count (now depths) (now areas)) ⌝ }
     ensures area { λ r. ⌜ r .area ≡ As u (layersIn count (now (depths .entry)) (now (areas .entry))) ⌝ }
@@ -55,8 +46,8 @@ fn layer_sums(count: usize, depths: &[u32; 16], areas: &[u32; 16], u: u64) -> Su
         let depth = depths[i];
         let a = areas[i];
         let counts = in_tension(u, depth);
-        area += kept(counts, a as u64);
-        moment += kept(counts, first_moment(a, depth));
+        area += arith::either(counts, a as u64, 0);
+        moment += arith::either(counts, first_moment(a, depth), 0);
         i += 1;
     }
     Sums {

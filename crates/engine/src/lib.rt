@@ -69,7 +69,7 @@ pub extern "C" fn salwoerk_moment_at(s: Section, u: u64) -> MomentAnswer
 pub extern "C" fn salwoerk_check(s: Section, l: Load) -> Listed
     ensures { λ r. ⌜ r ≡ listed (checkOf s l) ⌝ }
 {
-    clauses::check_listed(s, l)
+    clauses::numbers::check_listed(s, l)
 }
 
 #[no_mangle]

@@ -55,8 +55,7 @@ fn nearer(concrete: u64, fall: i64, lean: u64, v: u64) -> i64
     (concrete * v * v + lean) as i64 / slope
 }
 
-// 800 times what the lift of steel that does not yield gains with each tenth, and what it lies below 0 at depth 0: so it stands in the
-// excess.
+// What the excess gains with each tenth by the lift of all steel, while that does not yield.
 fn climb_of(x: Design, steel: u64) -> u64
     requires { ⌜ Bounded x × (steel ≤ 320000) ⌝ }
     ensures { λ r. ⌜ r ≤ 33280000000000 ⌝ }
@@ -64,6 +63,7 @@ fn climb_of(x: Design, steel: u64) -> u64
     800 * (100 * x.m.e + x.m.s) * steel
 }
 
+// What the excess lacks at depth 0, for steel with this first moment.
 fn lean_of(x: Design, moment: u64) -> u64
     requires { ⌜ Bounded x × (moment ≤ 1073741824) ⌝ }
     ensures { λ r. ⌜ r ≤ 700000000000000000 ⌝ }

@@ -1,5 +1,6 @@
 // The values of a line, for each case of what is read.
 use clauses::Listed;
+use clauses::numbers::check_listed;
 use clauses::numbers::refused_listed;
 use record::Reading;
 ghost use mathlib.Core.Path.{_≡_};
@@ -12,7 +13,7 @@ pub fn entry_of(reading: Reading) -> Listed
     if reading.refusal == 0 {
         let section = reading.section;
         let load = reading.load;
-        clauses::check_listed(section, load)
+        check_listed(section, load)
     } else {
         refused_listed(reading.refusal)
     }

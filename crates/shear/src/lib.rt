@@ -7,18 +7,11 @@ mod size;
 use guess::cube_root;
 use guess::square_root;
 use size::size_factor;
-ghost use mathlib.Core.Bool.{cond};
 ghost use mathlib.Core.Path.{_≡_};
 ghost use Prim.Native.Nat.{max, _*_, _≤_};
 ghost use Rattle.arith.specs.Integer.{Within};
 ghost use Rattle.shear.specs.Shear.{r, q, v, c, concreteShare, axialShare, orZero, VRdc};
 ghost use Rattle.shear.specs.Code.Ranges.{StressBounds, ShearBounds};
-
-fn either(t: bool, x: u64, y: u64) -> u64
-    ensures { λ z. ⌜ z ≡ cond t x y ⌝ }
-{
-    if t { x } else { y }
-}
 
 // r, from the longitudinal reinforcement ratio As/(b·dm), which counts up to 0.02.
 fn ratio_root(b: u64, fck: u64, area: u64, dm: u64) -> u64
@@ -27,8 +20,8 @@ fn ratio_root(b: u64, fck: u64, area: u64, dm: u64) -> u64
 {
     let concrete = b * dm;
     let rich = concrete < 50 * area;
-    let a = either(rich, 1, concrete);
-    let y = either(rich, 2000000000 * fck, 100000000000 * area * fck);
+    let a = arith::either(rich, 1, concrete);
+    let y = arith::either(rich, 2000000000 * fck, 100000000000 * area * fck);
     cube_root(a, y)
 }
 

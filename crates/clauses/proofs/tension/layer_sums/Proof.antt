@@ -45,25 +45,25 @@ module _ (c : tie.In-loop Inv-loop μ-loop) where
   area-ok = all-at areaOk (c .before .loop .i) ls (start .pre .areas) next
 
 -- what it adds to either sum
-module _ (c : tie.After-kept Inv-loop μ-loop) where
+module _ (c : tie.After-either Inv-loop μ-loop) where
   abbrev at : tie.In-loop Inv-loop μ-loop
   at = c .before .before .before .before
 
-  area-kept : c .kept .result ≡ cond (inTension (start at .args .u) (layer at)) (layer at .area) 0
-  area-kept = c .kept .ensures ∙ ap (λ (t : Bool). cond t (layer at .area) 0) (c .before .in-tension .ensures)
+  area-kept : c .either .result ≡ cond (inTension (start at .args .u) (layer at)) (layer at .area) 0
+  area-kept = c .either .ensures ∙ ap (λ (t : Bool). cond t (layer at .area) 0) (c .before .in-tension .ensures)
 
-module _ (c : tie.After-kept2 Inv-loop μ-loop) where
-  abbrev before : tie.After-kept Inv-loop μ-loop
+module _ (c : tie.After-either2 Inv-loop μ-loop) where
+  abbrev before : tie.After-either Inv-loop μ-loop
   before = c .before .before
 
   abbrev l : tie.In-loop Inv-loop μ-loop
   l = at before
 
-  moment-kept : c .kept2 .result ≡ cond (inTension (start l .args .u) (layer l)) (layer l .area * layer l .depth) 0
-  moment-kept = c .kept2 .ensures ∙ (λ i. cond (before .before .in-tension .ensures i) (c .before .first-moment .ensures i) 0)
+  moment-kept : c .either2 .result ≡ cond (inTension (start l .args .u) (layer l)) (layer l .area * layer l .depth) 0
+  moment-kept = c .either2 .ensures ∙ (λ i. cond (before .before .in-tension .ensures i) (c .before .first-moment .ensures i) 0)
 
-  summed : Summed (start l .args .u) (ls l) (drop (l .before .loop .i + 1) (ls l)) (l .before .loop .area + before .kept .result)
-      (l .before .loop .moment + c .kept2 .result)
+  summed : Summed (start l .args .u) (ls l) (drop (l .before .loop .i + 1) (ls l)) (l .before .loop .area + before .either .result)
+      (l .before .loop .moment + c .either2 .result)
   summed = sum-step (next l) (area-kept before) moment-kept (l .before .loop .inv .1)
 
 loop-holds : tie.Need-loop-holds Inv-loop μ-loop
@@ -84,11 +84,11 @@ element-copy-out-a c = search needs
 in-tension-requires : tie.Need-in-tension-requires Inv-loop μ-loop
 in-tension-requires c κs = search needs
 
-cast-kept : tie.Need-cast-kept Inv-loop μ-loop
-cast-kept c = let l = c .before .before .before in omega (arith, steel-high (layer l) (area-ok l))
+cast-either : tie.Need-cast-either Inv-loop μ-loop
+cast-either c = let l = c .before .before .before in omega (arith, steel-high (layer l) (area-ok l))
 
-kept-requires : tie.Need-kept-requires Inv-loop μ-loop
-kept-requires c κs = search needs
+either-requires : tie.Need-either-requires Inv-loop μ-loop
+either-requires c κs = search needs
 
 add-area : tie.Need-add-area Inv-loop μ-loop
 add-area c =
@@ -102,8 +102,8 @@ first-moment-requires c κs =
     let l = at c in
     (omega (arith, steel-high (layer l) (area-ok l)), omega (arith, layer-high 2000 (layer l) (depth-ok l)))
 
-kept-requires-2 : tie.Need-kept-requires-2 Inv-loop μ-loop
-kept-requires-2 c κs = search needs
+either-requires-2 : tie.Need-either-requires-2 Inv-loop μ-loop
+either-requires-2 c κs = search needs
 
 add-moment : tie.Need-add-moment Inv-loop μ-loop
 add-moment c = omega (arith, summed c .moment-is, moment-most (ls (l c)) (start (l c) .pre) (start (l c) .args .u))
@@ -137,11 +137,11 @@ layer-sums-spec =
     mul-a
     element-copy-out-a
     in-tension-requires
-    cast-kept
-    kept-requires
+    cast-either
+    either-requires
     add-area
     first-moment-requires
-    kept-requires-2
+    either-requires-2
     add-moment
     add-i
     loop-less

@@ -1,9 +1,9 @@
--- `clauses::check_listed` meets its contract. Assumes nothing.
+-- `clauses::numbers::check_listed` meets its contract. Assumes nothing.
 use mathlib.Core.Path.{ap, _∙_}
 use Rattle.clauses.specs.Check.{listed}
 use borrow.Author.Needs.{needs}
-use Rattle.clauses.proofs.check_listed.Statement.{statement}
-use Rattle.clauses.proofs.check_listed.Tie as tie
+use Rattle.clauses.proofs.numbers.check_listed.Statement.{statement}
+use Rattle.clauses.proofs.numbers.check_listed.Tie as tie
 
 check-section-requires : tie.Need-check-section-requires
 check-section-requires c κs = search needs
