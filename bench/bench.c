@@ -1,17 +1,18 @@
 /* How quick the engine is beside plain C of the same work.
  *
- *   bench [SEED]    compares every answer, then times Check and Find a depth (list.c times the list program)
+ *   bench [SEED]    compares every answer, then times Check, Check with links and Find a depth (list.c times the list program)
  *
  * Answers: random sections and loads, with every refusal of the two calls and values at the limits among them, and the loads at which
- * answers turn (the force at a depth 1 N less and more, MRd of either face 1 N·mm less and more). A difference is printed and ends the run
- * with 1.
+ * answers turn (the force at a depth 1 N less and more, MRd of either face 1 N·mm less and more); a third has links, with the V, the spacing
+ * and the area among them at which verdict six turns. A difference is printed and ends the run with 1.
  *
  * Times: accepted sections with loads, the same for all, in two ways. "Over and over" are FEW sections, gone through again and again: the
  * processor has learnt which way every branch of each goes, as it has of nothing that is checked once. "In turn" are SECTIONS, each seen
  * once in a round: the work of a lot, or of a search over layouts. A round goes through them with the engine, then with plain C by pointer,
  * then by value, so that whatever else the machine does falls on each. Of all rounds the best is taken, since a disturbance only ever
  * adds; each round lies at another place of the stack, which moves the time of a copy by some percent. Half of the loads compress the
- * bottom. ratio = time of plain C / time of the engine: above 1 the engine is the quicker. Times are printed, never asserted.
+ * bottom. The sections of the rows "with links" all have links in range, and N is 0; those of the other rows have none. ratio = time of plain
+ * C / time of the engine: above 1 the engine is the quicker. Times are printed, never asserted.
  *
  * "plain" finds the depth, r and q by a least and a greatest candidate; "same roots" is plain C by pointer with r and q from the engine's
  * guess, tested as the engine tests it. */
@@ -45,27 +46,30 @@ static bool one_in(uint64_t n) { return below(n) == 0; }
 static bool equal(salwoerk_report a, salwoerk_report b)
 {
     return a.refusal == b.refusal && a.u == b.u && a.mrd == b.mrd && a.other_u == b.other_u && a.other_mrd == b.other_mrd && a.vrd == b.vrd
-        && a.dm == b.dm && a.area == b.area && !memcmp(a.verdicts, b.verdicts, sizeof a.verdicts);
+        && a.dm == b.dm && a.area == b.area && a.cotangent == b.cotangent && a.link_resistance == b.link_resistance
+        && !memcmp(a.verdicts, b.verdicts, sizeof a.verdicts);
 }
 
 static void print_check(const char *who, salwoerk_report a)
 {
-    printf("%s %llu %llu %lld %llu %lld %llu %llu %llu ", who, (unsigned long long)a.refusal, (unsigned long long)a.u, (long long)a.mrd,
-        (unsigned long long)a.other_u, (long long)a.other_mrd, (unsigned long long)a.vrd, (unsigned long long)a.dm, (unsigned long long)a.area);
-    for (int i = 0; i < 5; i++) printf(" %llu", (unsigned long long)a.verdicts[i]);
+    printf("%s %llu %llu %lld %llu %lld %llu %llu %llu %llu %llu ", who, (unsigned long long)a.refusal, (unsigned long long)a.u, (long long)a.mrd,
+        (unsigned long long)a.other_u, (long long)a.other_mrd, (unsigned long long)a.vrd, (unsigned long long)a.dm, (unsigned long long)a.area,
+        (unsigned long long)a.cotangent, (unsigned long long)a.link_resistance);
+    for (int i = 0; i < SALWOERK_VERDICTS; i++) printf(" %llu", (unsigned long long)a.verdicts[i]);
     printf("\n");
 }
 
 static void print_section(const salwoerk_section *s, salwoerk_load l)
 {
-    printf("b %lld h %lld fck %lld fyk %lld N %lld M %lld V %lld count %zu:", (long long)s->width, (long long)s->height, (long long)s->grade.fck,
-        (long long)s->grade.fyk, (long long)l.n, (long long)l.m, (long long)l.v, s->count);
+    printf("b %lld h %lld fck %lld fyk %lld N %lld M %lld V %lld links %llu %u/%u count %zu:", (long long)s->width, (long long)s->height,
+        (long long)s->grade.fck, (long long)s->grade.fyk, (long long)l.n, (long long)l.m, (long long)l.v, (unsigned long long)s->links.present,
+        s->links.area, s->links.spacing, s->count);
     for (size_t i = 0; i < s->count && i < 16; i++) printf(" %u/%u", s->layers[i].depth, s->layers[i].area);
     printf("\n");
 }
 
-/* bit k: refusal k was met, bit 0: an answer; and the verdicts, three bits each */
-static uint64_t met, verdicts;
+/* bit k: refusal k was met, bit 0: an answer; the verdicts, three bits each; and bit c: cotangent c was answered */
+static uint64_t met, verdicts, cotangents;
 
 static salwoerk_report compare(const salwoerk_section *s, salwoerk_load l)
 {
@@ -84,24 +88,34 @@ static salwoerk_report compare(const salwoerk_section *s, salwoerk_load l)
         exit(1);
     }
     met |= 1ull << e.refusal;
-    for (int i = 0; i < 5 && !e.refusal; i++) verdicts |= 1ull << (3 * i + (int)e.verdicts[i]);
+    for (int i = 0; i < SALWOERK_VERDICTS && !e.refusal; i++) verdicts |= 1ull << (3 * i + (int)e.verdicts[i]);
+    cotangents |= 1ull << e.cotangent;
     return e;
 }
 
 /* ---- sections */
 
-/* An accepted section with so many layers; the places beyond hold numbers that no answer may depend on. */
+/* An accepted section with so many layers and no links; the places beyond, and the links, hold numbers that no answer may depend on. */
 static void random_section(salwoerk_section *s, size_t count)
 {
     s->width = between(50, 2000);
     s->height = between(50, 2000);
     s->grade.fck = classes[below(14)];
     s->grade.fyk = between(400, 600);
+    s->links = (salwoerk_links){ 0, (uint32_t)between(0, 6000), (uint32_t)between(0, 1100) };
     s->count = count;
     for (size_t i = 0; i < 16; i++) {
         s->layers[i].depth = (uint32_t)between(1, s->height - 1);
         s->layers[i].area = (uint32_t)between(1, one_in(4) ? 20000 : 1 + s->width * s->height / 25 / (int64_t)count % 20000);
     }
+}
+
+/* Links in range, half of them small, for a load without N. */
+static void add_links(salwoerk_section *s, salwoerk_load *l)
+{
+    bool small = one_in(2);
+    s->links = (salwoerk_links){ 1, (uint32_t)between(1, small ? 300 : 5000), (uint32_t)between(25, small ? 400 : 1000) };
+    l->n = 0;
 }
 
 /* One number of an accepted section put at a limit or beyond it. */
@@ -112,11 +126,14 @@ static void damage(salwoerk_section *s, salwoerk_load *l)
     static const int64_t fyks[] = { 399, 400, 401, 599, 600, 601, 0, -500, INT64_MIN, INT64_MAX };
     static const size_t counts[] = { 0, 1, 15, 16, 17, 18, SIZE_MAX };
     static const uint32_t areas[] = { 0, 1, 19999, 20000, 20001, UINT32_MAX };
+    static const uint64_t present[] = { 0, 1, 2, 256, 1ull << 32, UINT64_MAX };
+    static const uint32_t link_areas[] = { 0, 1, 4999, 5000, 5001, UINT32_MAX };
+    static const uint32_t spacings[] = { 0, 24, 25, 1000, 1001, UINT32_MAX };
     static const int64_t forces[] = { 500000000, 500000001, -500000000, -500000001, INT64_MIN, INT64_MAX, 0 };
     static const int64_t moments[] = { 1000000000000, 1000000000001, -1000000000000, -1000000000001, INT64_MIN, INT64_MAX, 0, -1, 1 };
     salwoerk_layer *any = &s->layers[below(16)];
     uint32_t depths[] = { 0, 1, (uint32_t)s->height - 1, (uint32_t)s->height, (uint32_t)s->height + 1, UINT32_MAX };
-    switch (below(9)) {
+    switch (below(12)) {
     case 0: s->width = sizes[below(11)]; break;
     case 1: s->height = sizes[below(11)]; break;
     case 2: s->grade.fck = fcks[below(13)]; break;
@@ -126,6 +143,9 @@ static void damage(salwoerk_section *s, salwoerk_load *l)
     case 6: any->area = areas[below(6)]; break;
     case 7: if (one_in(2)) l->n = forces[below(7)]; else l->v = forces[below(7)]; break;
     case 8: l->m = moments[below(9)]; break;
+    case 9: s->links.present = present[below(6)]; break;
+    case 10: s->links.area = link_areas[below(6)]; break;
+    case 11: s->links.spacing = spacings[below(6)]; break;
     }
 }
 
@@ -143,45 +163,79 @@ static int64_t force_near(const salwoerk_section *s, int64_t m, int64_t u)
     return lo;
 }
 
+/* Where depths and resistances turn. */
+static void compare_turn(salwoerk_section s, salwoerk_load l)
+{
+    s.links.present = 0;
+    int64_t turn = force_near(&s, l.m, one_in(8) ? 0 : one_in(8) ? 10 * s.height : between(1, 10 * s.height)), side = l.m < 0 ? -1 : 1;
+    for (int64_t n = turn - 1; n <= turn + 2; n++) {
+        l.n = n;
+        salwoerk_report a = compare(&s, l);
+        for (int64_t d = -1; d <= 1 && !a.refusal; d++) { /* both ends of verdict one */
+            compare(&s, (salwoerk_load){ n, side * (a.mrd + d), (int64_t)a.vrd + d });
+            compare(&s, (salwoerk_load){ n, side * (a.mrd + d), -(int64_t)a.vrd - d });
+            compare(&s, (salwoerk_load){ n, -side * (a.other_mrd + d), (int64_t)a.vrd + d });
+        }
+    }
+}
+
+/* Where verdict six turns: V at the resistance, the spacing at 0.75 dm, the area at the least ratio. */
+static void compare_link_turn(salwoerk_section s, salwoerk_load l, salwoerk_report a)
+{
+    for (int64_t d = -1; d <= 1; d++) {
+        compare(&s, (salwoerk_load){ 0, l.m, (int64_t)a.link_resistance + d });
+        compare(&s, (salwoerk_load){ 0, l.m, -(int64_t)a.link_resistance - d });
+    }
+    l.v = 0;
+    for (int64_t d = -1; d <= 1; d++) {
+        s.links.spacing = (uint32_t)((int64_t)a.dm * 3 / 4 + d);
+        compare(&s, l);
+    }
+    s.links.spacing = (uint32_t)between(25, 1000);
+    int64_t limit = 4 * s.grade.fck * s.links.spacing * s.width * s.links.spacing * s.width, least = 1;
+    while (625 * least * s.grade.fyk * least * s.grade.fyk < limit) least++;
+    for (int64_t d = -1; d <= 1; d++) {
+        s.links.area = (uint32_t)(least + d);
+        compare(&s, l);
+    }
+}
+
+static void print_met(void)
+{
+    printf("answers agree; met: an answer and the refusals");
+    for (int k = 1; k < 30; k++) if (met >> k & 1) printf(" %d", k);
+    printf("; verdicts");
+    for (int k = 0; k < SALWOERK_VERDICTS; k++) {
+        printf(" ");
+        for (int v = 0; v < 3; v++) if (verdicts >> (3 * k + v) & 1) printf("%d", v);
+    }
+    printf("; cotangents");
+    for (int c = 0; c < 26; c++) if (cotangents >> c & 1) printf(" %d", c);
+    printf("\n");
+}
+
 static void compare_all(void)
 {
     for (long k = 0; k < COMPARED; k++) {
         salwoerk_section s;
         random_section(&s, 1 + below(16));
         salwoerk_load l = { between(-3000000, 6000000), between(-2000000000, 2000000000), between(-1000000, 1000000) };
+        if (one_in(3)) add_links(&s, &l);
         while (one_in(4)) damage(&s, &l);
         salwoerk_report a = compare(&s, l);
-        if (one_in(64) && !a.refusal) { /* where answers turn */
-            int64_t turn = force_near(&s, l.m, one_in(8) ? 0 : one_in(8) ? 10 * s.height : between(1, 10 * s.height));
-            for (int64_t n = turn - 1; n <= turn + 2; n++) {
-                l.n = n;
-                a = compare(&s, l);
-                if (a.refusal) continue;
-                int64_t side = l.m < 0 ? -1 : 1;
-                for (int64_t d = -1; d <= 1; d++) { /* both ends of verdict one */
-                    compare(&s, (salwoerk_load){ n, side * (a.mrd + d), (int64_t)a.vrd + d });
-                    compare(&s, (salwoerk_load){ n, side * (a.mrd + d), -(int64_t)a.vrd - d });
-                    compare(&s, (salwoerk_load){ n, -side * (a.other_mrd + d), (int64_t)a.vrd + d });
-                }
-            }
-        }
+        if (a.refusal) continue;
+        if (one_in(64)) compare_turn(s, l);
+        if (s.links.present && one_in(16)) compare_link_turn(s, l, a);
     }
-    printf("answers agree; met: an answer and the refusals");
-    for (int k = 1; k < 13; k++) if (met >> k & 1) printf(" %d", k);
-    printf("; verdicts");
-    for (int k = 0; k < 5; k++) {
-        printf(" ");
-        for (int v = 0; v < 3; v++) if (verdicts >> (3 * k + v) & 1) printf("%d", v);
-    }
-    printf("\n");
+    print_met();
 }
 
 /* ---- times */
 static salwoerk_section sections[SECTIONS];
 static salwoerk_load loads[SECTIONS];
 
-/* Accepted by both calls: of the size of beams and columns, steel up to about 4 % of the section. */
-static void fill(size_t count)
+/* Accepted by both calls: of the size of beams and columns, steel up to about 4 % of the section; with links of beams, or without links. */
+static void fill(size_t count, bool linked)
 {
     for (int k = 0; k < SECTIONS; k++) {
         salwoerk_section *s = &sections[k];
@@ -194,6 +248,10 @@ static void fill(size_t count)
                 s->layers[i].area = (uint32_t)between(100, 20000 / (int64_t)count);
             }
             loads[k] = (salwoerk_load){ between(-200000, 2000000), between(-1000000000, 1000000000), between(-500000, 500000) };
+            if (linked) {
+                s->links = (salwoerk_links){ 1, (uint32_t)between(50, 1000), (uint32_t)between(50, 400) };
+                loads[k].n = 0;
+            }
         } while (compare(s, loads[k]).refusal || plain_find_depth(s, loads[k].n).refusal);
     }
 }
@@ -228,51 +286,70 @@ static void row(size_t count, const double *t)
     printf("%6zu %10.0f %7.1f | %6.1f %6.2f | %8.1f %6.2f", count, 1e9 / t[0], t[0], t[1], t[1] / t[0], t[2], t[2] / t[0]);
 }
 
-/* Check by the engine, plain C by pointer, by value and with the same roots; Find a depth by the first three. */
-typedef struct { double check[4], depth[3]; } measured;
-
-static measured measure(way w)
+/* By the engine, by plain C by pointer, by value and with the same roots. */
+static void measure_check(way w, double *best)
 {
-    measured m;
-    for (int i = 0; i < 4; i++) m.check[i] = 1e18;
-    for (int i = 0; i < 3; i++) m.depth[i] = 1e18;
+    for (int i = 0; i < 4; i++) best[i] = 1e18;
     for (int round = 0; round < w.rounds; round++) {
         volatile char *moved = alloca((size_t)(16 + 16 * below(256)));
         moved[0] = 0;
-        TIME(m.check[0], w, salwoerk_check(sections[k], loads[k]).mrd);
-        TIME(m.check[1], w, plain_check(&sections[k], &loads[k]).mrd);
-        TIME(m.check[2], w, plain_check_by_value(sections[k], loads[k]).mrd);
-        TIME(m.check[3], w, same_check(&sections[k], &loads[k]).mrd);
-        TIME(m.depth[0], w, salwoerk_find_depth(sections[k], loads[k].n).depth);
-        TIME(m.depth[1], w, plain_find_depth(&sections[k], loads[k].n).depth);
-        TIME(m.depth[2], w, plain_find_depth_by_value(sections[k], loads[k].n).depth);
+        TIME(best[0], w, salwoerk_check(sections[k], loads[k]).mrd);
+        TIME(best[1], w, plain_check(&sections[k], &loads[k]).mrd);
+        TIME(best[2], w, plain_check_by_value(sections[k], loads[k]).mrd);
+        TIME(best[3], w, same_check(&sections[k], &loads[k]).mrd);
     }
-    return m;
+}
+
+/* By the engine, by plain C by pointer and by value. */
+static void measure_depth(way w, double *best)
+{
+    for (int i = 0; i < 3; i++) best[i] = 1e18;
+    for (int round = 0; round < w.rounds; round++) {
+        volatile char *moved = alloca((size_t)(16 + 16 * below(256)));
+        moved[0] = 0;
+        TIME(best[0], w, salwoerk_find_depth(sections[k], loads[k].n).depth);
+        TIME(best[1], w, plain_find_depth(&sections[k], loads[k].n).depth);
+        TIME(best[2], w, plain_find_depth_by_value(sections[k], loads[k].n).depth);
+    }
+}
+
+#define COUNTS 4
+static const size_t counts[COUNTS] = { 1, 4, 8, 16 };
+
+static void print_check_times(const char *what, way w, double t[COUNTS][4])
+{
+    printf("%s, %s\n%s | same roots  ratio\n", what, w.name, heading);
+    for (int c = 0; c < COUNTS; c++) {
+        row(counts[c], t[c]);
+        printf(" | %10.1f %6.2f\n", t[c][3], t[c][3] / t[c][0]);
+    }
+}
+
+static void print_depth_times(way w, double t[COUNTS][3])
+{
+    printf("Find a depth, %s\n%s\n", w.name, heading);
+    for (int c = 0; c < COUNTS; c++) {
+        row(counts[c], t[c]);
+        printf("\n");
+    }
 }
 
 static void times(void)
 {
-    static const size_t counts[] = { 1, 4, 8, 16 };
-    measured m[2][4];
-    for (int c = 0; c < 4; c++) {
-        fill(counts[c]);
-        for (int w = 0; w < 2; w++) m[w][c] = measure(ways[w]);
+    double check[2][COUNTS][4], linked[2][COUNTS][4], depth[2][COUNTS][3];
+    for (int c = 0; c < COUNTS; c++) {
+        fill(counts[c], false);
+        for (int w = 0; w < 2; w++) {
+            measure_check(ways[w], check[w][c]);
+            measure_depth(ways[w], depth[w][c]);
+        }
+        fill(counts[c], true);
+        for (int w = 0; w < 2; w++) measure_check(ways[w], linked[w][c]);
     }
     printf("times in ns of a call; ratio = plain C / engine\n");
-    for (int w = 0; w < 2; w++) {
-        printf("Check, %s\n%s | same roots  ratio\n", ways[w].name, heading);
-        for (int c = 0; c < 4; c++) {
-            row(counts[c], m[w][c].check);
-            printf(" | %10.1f %6.2f\n", m[w][c].check[3], m[w][c].check[3] / m[w][c].check[0]);
-        }
-    }
-    for (int w = 0; w < 2; w++) {
-        printf("Find a depth, %s\n%s\n", ways[w].name, heading);
-        for (int c = 0; c < 4; c++) {
-            row(counts[c], m[w][c].depth);
-            printf("\n");
-        }
-    }
+    for (int w = 0; w < 2; w++) print_check_times("Check", ways[w], check[w]);
+    for (int w = 0; w < 2; w++) print_check_times("Check, with links", ways[w], linked[w]);
+    for (int w = 0; w < 2; w++) print_depth_times(ways[w], depth[w]);
 }
 
 int main(int count, char **words)

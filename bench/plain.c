@@ -1,5 +1,6 @@
 /* Find a depth and Check in plain C, as a C programmer would write them who wants them quick: the measure that the engine is held to.
- * The same tests in the same sequence, the same rule of halving without a division, r and q by that rule too, K from a table.
+ * The same tests in the same sequence, the same rule of halving without a division, r and q by that rule too, K from a table; the strut's
+ * cotangent by a loop over its sixteen tenths.
  * With -DSAME it is Check with r and q as the engine has them: a guess by one Halley step, tested by the definition, and halving where it fails.
  * Every number fits int64_t (the products are taken in an order in which they do), so __int128 is nowhere needed. */
 #include <stdbool.h>
@@ -188,6 +189,30 @@ static inline int64_t shear_resistance(int64_t b, int64_t h, int64_t fck, int64_
     return sum < 0 ? 0 : sum;
 }
 
+/* 6.2.3: the cotangent in tenths whose lesser resistance, of links and strut, is greatest, the smallest on a tie; and that resistance. */
+struct strut { int64_t cotangent, resistance; };
+
+static inline struct strut strut_for(const salwoerk_links *links, int64_t b, int64_t dm, int64_t fck, const struct materials *m)
+{
+    struct strut best = { 0, -1 };
+    for (int64_t c = 10; c <= 25; c++) {
+        int64_t by_links = 9 * links->area * dm * m->s * c / (10000 * (int64_t)links->spacing);
+        int64_t by_strut = 27 * b * dm * (250 - fck) * m->g * c / (125000 * (c * c + 100));
+        int64_t lesser = by_links < by_strut ? by_links : by_strut;
+        if (lesser > best.resistance) best = (struct strut){ c, lesser };
+    }
+    return best;
+}
+
+/* 9.2.2(6) and (5): the spacing is at most 0.75 dm, and area/(spacing b) at least 0.08 sqrt(fck)/fyk, by squares. */
+static inline bool well_spaced(const salwoerk_links *links, int64_t dm) { return 4 * (int64_t)links->spacing <= 3 * dm; }
+
+static inline bool enough_links(const salwoerk_links *links, int64_t b, const salwoerk_grade *grade)
+{
+    int64_t steel = links->area * grade->fyk, concrete = links->spacing * b;
+    return 625 * steel * steel >= 4 * grade->fck * concrete * concrete;
+}
+
 static inline int64_t magnitude(int64_t x) { return x < 0 ? -x : x; }
 
 /* A face: the layers as it sees them, its depth under N and its resistance there. */
@@ -213,19 +238,35 @@ static inline salwoerk_report report(const struct face *top, const struct face *
     }
     int64_t dm = area ? moment / area : 0;
     int64_t vrd = shear_resistance(b, h, s->grade.fck, m->g, l->n, area, dm);
+    bool linked = s->links.present && area;
+    struct strut strut = linked ? strut_for(&s->links, b, dm, s->grade.fck, m) : (struct strut){ 0, 0 };
     return (salwoerk_report){
         0, (uint64_t)u, shown->mrd, (uint64_t)other->u, other->mrd, (uint64_t)vrd, (uint64_t)dm, (uint64_t)area,
+        (uint64_t)strut.cotangent, (uint64_t)strut.resistance,
         { l->m > top->mrd || l->m < -bottom->mrd,
         !area ? 2 : 10 * u > (s->grade.fck <= 50 ? 45 : 35) * dm,
         !area ? 2 : magnitude(l->v) > vrd,
         !area ? 2 : 26 * m->t * b * dm > 1000 * area * s->grade.fyk || 13 * b * dm > 10000 * area,
-        25 * all > b * h },
+        25 * all > b * h,
+        !linked ? 2 : magnitude(l->v) > strut.resistance || !well_spaced(&s->links, dm) || !enough_links(&s->links, b, &s->grade) },
     };
 }
 
 static inline salwoerk_report refused(int number)
 {
-    return (salwoerk_report){ .refusal = (uint64_t)number, .verdicts = { 2, 2, 2, 2, 2 } };
+    return (salwoerk_report){ .refusal = (uint64_t)number, .verdicts = { 2, 2, 2, 2, 2, 2 } };
+}
+
+/* The load tests, then the link tests. */
+static inline int load_refusal(const salwoerk_load *l)
+{
+    return outside(l->n, 500000000) ? 8 : outside(l->m, 1000000000000) ? 9 : outside(l->v, 500000000) ? 10 : 0;
+}
+
+static inline int link_refusal(const salwoerk_links *links, int64_t n)
+{
+    if (!links->present) return 0;
+    return links->area < 1 || links->area > 5000 ? 27 : links->spacing < 25 || links->spacing > 1000 ? 28 : n ? 29 : 0;
 }
 
 /* At depth 1 every layer is at its limit, so that 11 is the same for both faces and is asked once; 12 is of either face. */
@@ -234,7 +275,8 @@ static inline salwoerk_report check(const salwoerk_section *s, const salwoerk_lo
     struct materials m;
     salwoerk_layer turned[16];
     int k = accept(s, &m);
-    if (!k) k = outside(l->n, 500000000) ? 8 : outside(l->m, 1000000000000) ? 9 : outside(l->v, 500000000) ? 10 : 0;
+    if (!k) k = load_refusal(l);
+    if (!k) k = link_refusal(&s->links, l->n);
     if (k) return refused(k);
     int64_t flb = m.f * m.l * s->width;
     if (below_range(s->layers, s->count, flb, &m, l->n)) return refused(11);

@@ -1,4 +1,4 @@
-/* Section A of the scope document under M 200,000,000 N mm and V 80,000 N: depth, resistances and verdicts.
+/* Section A of the scope document with links of 101 mm2 every 200 mm, under M 200,000,000 N mm and V 80,000 N: depth, resistances and verdicts.
  *     ./build-library
  *     gcc -I include examples/check.c target/lib/libsalwoerk.a -o check && ./check
  */
@@ -16,6 +16,9 @@ int main(void)
     a.count = 1;
     a.layers[0].depth = 450;
     a.layers[0].area = 1500;
+    a.links.present = 1;
+    a.links.area = 101;
+    a.links.spacing = 200;
 
     salwoerk_report r = salwoerk_check(a, load);
     if (r.refusal) {
@@ -24,6 +27,8 @@ int main(void)
     }
     printf("u %.1f mm, MRd %lld N mm, VRd,c %d N, dm %d mm, As %d mm2\n", (double)r.u / 10, (long long)r.mrd, (int)r.vrd, (int)r.dm, (int)r.area);
     printf("the other face: u %.1f mm, MRd %lld N mm\n", (double)r.other_u / 10, (long long)r.other_mrd);
+    if (r.cotangent) /* 0 where there are no links */
+        printf("with links: VRd %d N, cotangent %.1f\n", (int)r.link_resistance, (double)r.cotangent / 10);
     for (size_t i = 0; i < SALWOERK_VERDICTS; i++)
         printf("%s, %s: %s\n", salwoerk_verdict_clause(i), salwoerk_verdict_question(i), salwoerk_verdict_text(r.verdicts[i]));
     return 0;

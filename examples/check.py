@@ -1,5 +1,5 @@
 #!/usr/bin/env python3
-"""Section A of the scope document through the C library, by ctypes.
+"""Section A of the scope document with links of 101 mm² every 200 mm, through the C library, by ctypes.
 
     ./build-library
     python3 examples/check.py target/lib/libsalwoerk.so
@@ -18,8 +18,12 @@ class Grade(ctypes.Structure):
     _fields_ = [("fck", c_int64), ("fyk", c_int64)]
 
 
+class Links(ctypes.Structure):
+    _fields_ = [("present", c_uint64), ("area", c_uint32), ("spacing", c_uint32)]
+
+
 class Section(ctypes.Structure):
-    _fields_ = [("layers", Layer * 16), ("width", c_int64), ("height", c_int64), ("grade", Grade), ("count", c_size_t)]
+    _fields_ = [("layers", Layer * 16), ("width", c_int64), ("height", c_int64), ("grade", Grade), ("links", Links), ("count", c_size_t)]
 
 
 class Load(ctypes.Structure):
@@ -28,7 +32,8 @@ class Load(ctypes.Structure):
 
 class Report(ctypes.Structure):
     _fields_ = [("refusal", c_uint64), ("u", c_uint64), ("mrd", c_int64), ("other_u", c_uint64), ("other_mrd", c_int64),
-                ("vrd", c_uint64), ("dm", c_uint64), ("area", c_uint64), ("verdicts", c_uint64 * 5)]
+                ("vrd", c_uint64), ("dm", c_uint64), ("area", c_uint64), ("cotangent", c_uint64), ("link_resistance", c_uint64),
+                ("verdicts", c_uint64 * 6)]
 
 
 def main():
@@ -36,8 +41,10 @@ def main():
     check.argtypes, check.restype = [Section, Load], Report
     section = Section(width=300, height=500, grade=Grade(fck=30, fyk=500), count=1)
     section.layers[0] = Layer(depth=450, area=1500)
+    section.links = Links(present=1, area=101, spacing=200)
     report = check(section, Load(n=0, m=200_000_000, v=80_000))
-    print(report.refusal, report.u, report.mrd, report.other_u, report.other_mrd, report.vrd, report.dm, report.area, *report.verdicts)
+    print(report.refusal, report.u, report.mrd, report.other_u, report.other_mrd, report.vrd, report.dm, report.area,
+          report.cotangent, report.link_resistance, *report.verdicts)
 
 
 if __name__ == "__main__":

@@ -15,9 +15,12 @@
 #include <stdint.h>
 
 /* Of this header: MAJOR changes where a caller must be compiled again, MINOR where something is added, PATCH else.
+ * 3.0.0: a section holds links before count, the answer of salwoerk_check holds cotangent and link_resistance before its verdicts, which are six; so
+ * whoever hands over or gets a section or a report must be compiled again, and sets links.present to 0 where there are no links (SALWOERK_SECTION_INIT
+ * does). Bit 7 of a record is no longer refused: it is the links. A line of salwoerk_list has a sixth verdict.
  * 2.0.0: verdict one and refusal 12 of salwoerk_check look at both faces, and its answer holds other_u and other_mrd before vrd; so whoever calls
  * it must be compiled again. */
-#define SALWOERK_VERSION_MAJOR 2
+#define SALWOERK_VERSION_MAJOR 3
 #define SALWOERK_VERSION_MINOR 0
 #define SALWOERK_VERSION_PATCH 0
 #define SALWOERK_VERSION (SALWOERK_VERSION_MAJOR * 10000 + SALWOERK_VERSION_MINOR * 100 + SALWOERK_VERSION_PATCH)
@@ -29,7 +32,7 @@ extern "C" {
 /* ---- what a call takes */
 
 #define SALWOERK_LAYERS 16
-#define SALWOERK_VERDICTS 5
+#define SALWOERK_VERDICTS 6
 
 /* A layer of steel: depth from the top face in mm, area in mm2. */
 typedef struct { uint32_t depth, area; } salwoerk_layer;
@@ -37,17 +40,25 @@ typedef struct { uint32_t depth, area; } salwoerk_layer;
 /* Strengths of concrete and steel in N/mm2. */
 typedef struct { int64_t fck, fyk; } salwoerk_grade;
 
+/* Vertical links, of steel as fyk: the area of all legs of one link in mm2, the spacing along the member in mm. `present` 0 means none, and then the
+ * other two are never read; any other number means that they are there. */
+typedef struct {
+    uint64_t present;
+    uint32_t area, spacing;
+} salwoerk_links;
+
 /* Width and height in mm. Only the first `count` layers are read. */
 typedef struct {
     salwoerk_layer layers[SALWOERK_LAYERS];
     int64_t width, height;
     salwoerk_grade grade;
+    salwoerk_links links;
     size_t count;
 } salwoerk_section;
 
-/* No layers and zeros; a field that is added later has here the value that its absence means. Start every section so:
+/* No layers, no links and zeros; a field that is added later has here the value that its absence means. Start every section so:
  *     salwoerk_section a = SALWOERK_SECTION_INIT; */
-#define SALWOERK_SECTION_INIT { { { 0, 0 } }, 0, 0, { 0, 0 }, 0 }
+#define SALWOERK_SECTION_INIT { { { 0, 0 } }, 0, 0, { 0, 0 }, { 0, 0, 0 }, 0 }
 
 /* N and V in newtons, N positive in compression; M in N mm about mid-height, positive where it compresses the top. */
 typedef struct { int64_t n, m, v; } salwoerk_load;
@@ -55,7 +66,7 @@ typedef struct { int64_t n, m, v; } salwoerk_load;
 /* ---- refusals and verdicts */
 
 /* The `refusal` of an answer is 0 or one of these. The first test of a call's sequence that fails gives it; the sequence stands with the call.
- * The section tests are 1 2 3 4 5 6 7, the load tests 8 9 10. */
+ * The section tests are 1 2 3 4 5 6 7, the load tests 8 9 10, the link tests 27 28 29, which absent links pass. */
 enum salwoerk_refusal {
     SALWOERK_ACCEPTED = 0,
     SALWOERK_WIDTH = 1,
@@ -76,7 +87,10 @@ enum salwoerk_refusal {
     SALWOERK_CUT_RECORD = 22,
     SALWOERK_MISSING_FIELD = 23,
     SALWOERK_SHORT_BUFFER = 25,
-    SALWOERK_LONG_INPUT = 26 /* of the list program alone */
+    SALWOERK_LONG_INPUT = 26, /* of the list program alone */
+    SALWOERK_LINK_AREA = 27,
+    SALWOERK_LINK_SPACING = 28,
+    SALWOERK_LINKS_WITH_AXIAL_FORCE = 29
 };
 
 static inline const char *salwoerk_refusal_text(uint64_t refusal)
@@ -97,11 +111,14 @@ static inline const char *salwoerk_refusal_text(uint64_t refusal)
     case SALWOERK_ABOVE_RANGE: return "N above the internal force at depth 10h, in Check of either face";
     case SALWOERK_DEPTH: return "depth not 1 to 10h tenths of a millimetre";
     case SALWOERK_NO_MAP: return "fewer than 4 bytes";
-    case SALWOERK_UNKNOWN_BIT: return "bit 7 or one of 24 to 31 of the map stands";
+    case SALWOERK_UNKNOWN_BIT: return "one of bits 24 to 31 of the map stands";
     case SALWOERK_CUT_RECORD: return "fewer bytes than the map calls for";
     case SALWOERK_MISSING_FIELD: return "one of bits 0 to 3 absent";
     case SALWOERK_SHORT_BUFFER: return "the buffer is too short";
     case SALWOERK_LONG_INPUT: return "more than 65,536 bytes of input";
+    case SALWOERK_LINK_AREA: return "link area not 1 to 5,000 mm2";
+    case SALWOERK_LINK_SPACING: return "link spacing not 25 to 1,000 mm";
+    case SALWOERK_LINKS_WITH_AXIAL_FORCE: return "links with N not 0";
     default: return "no refusal of this version";
     }
 }
@@ -131,49 +148,57 @@ static inline const char *salwoerk_verdict_text(uint64_t verdict)
     }
 }
 
-/* The clause of verdicts[place], and what it asks. */
+/* The clause of verdicts[place], and what it asks. The sixth asks also what 9.2.2(5) and (6) ask of the links: the least ratio and the spacing. */
 static inline const char *salwoerk_verdict_clause(size_t place)
 {
-    static const char *const clauses[SALWOERK_VERDICTS] = { "6.1", "5.6.3(2)", "6.2.2", "9.2.1.1(1)", "9.2.1.1(3)" };
+    static const char *const clauses[SALWOERK_VERDICTS] = { "6.1", "5.6.3(2)", "6.2.2", "9.2.1.1(1)", "9.2.1.1(3)", "6.2.3" };
     return place < SALWOERK_VERDICTS ? clauses[place] : "";
 }
 
 static inline const char *salwoerk_verdict_question(size_t place)
 {
     static const char *const questions[SALWOERK_VERDICTS] = {
-        "M within MRd of both faces", "depth of the neutral axis", "|V| at most VRd,c", "least reinforcement", "most reinforcement"
+        "M within MRd of both faces", "depth of the neutral axis", "|V| at most VRd,c", "least reinforcement", "most reinforcement",
+        "|V| at most the links' resistance, their spacing and ratio"
     };
     return place < SALWOERK_VERDICTS ? questions[place] : "";
 }
 
 /* ---- the calls */
 
-/* Find a depth: the neutral axis in tenths of a millimetre from the top, which is compressed. Refusals: section tests, 8, 11 12. */
+/* Find a depth: the neutral axis in tenths of a millimetre from the top, which is compressed; links are not looked at. Refusals: section
+ * tests, 8, 11 12. */
 typedef struct { uint64_t refusal, depth; } salwoerk_depth;
 salwoerk_depth salwoerk_find_depth(salwoerk_section section, int64_t n);
 
-/* Moment at a depth: the moment resistance in N mm with the top compressed; it may be negative. Refusals: section tests, 13. */
+/* Moment at a depth: the moment resistance in N mm with the top compressed; it may be negative. Links are not looked at.
+ * Refusals: section tests, 13. */
 typedef struct { uint64_t refusal; int64_t moment; } salwoerk_moment;
 salwoerk_moment salwoerk_moment_at(salwoerk_section section, uint64_t depth);
 
-/* Check. Refusals: section tests, load tests, 11 12; here 12 is given where N is above the internal force at depth 10h of either face, and 11 is
- * the same for both. u in tenths of a millimetre and mrd in N mm are of the face that M compresses, the top for M 0; other_u and other_mrd are of
- * the other face, with that face compressed and the depth measured from it. A resistance may be negative. vrd in newtons, dm in mm (mean depth of
- * the tension layers) and area in mm2 (As) are of the face that M compresses. A verdict is one of enum salwoerk_verdict, in the sequence of
- * salwoerk_verdict_clause. The first passes where M is at most the resistance with the top compressed and at least minus that with the bottom
- * compressed: -other_mrd <= M <= mrd for M at least 0, -mrd <= M <= other_mrd for M below 0. There are sections that no M suits. */
+/* Check. Refusals: section tests, load tests, link tests, 11 12; here 12 is given where N is above the internal force at depth 10h of either face,
+ * and 11 is the same for both. u in tenths of a millimetre and mrd in N mm are of the face that M compresses, the top for M 0; other_u and other_mrd
+ * are of the other face, with that face compressed and the depth measured from it. A resistance may be negative. vrd in newtons (without links), dm
+ * in mm (mean depth of the tension layers) and area in mm2 (As) are of the face that M compresses. So is what the links carry: link_resistance in
+ * newtons, and the strut's cotangent in tenths, 10 to 25, at which it is greatest, the smallest on a tie.
+ *
+ * A verdict is one of enum salwoerk_verdict, in the sequence of salwoerk_verdict_clause. The first passes where M is at most the resistance with the
+ * top compressed and at least minus that with the bottom compressed: -other_mrd <= M <= mrd for M at least 0, -mrd <= M <= other_mrd for M below 0.
+ * There are sections that no M suits. The third asks whether V is carried without links, present or not. The sixth passes where |V| is at most
+ * link_resistance, the spacing at most 0.75 dm and area/(spacing b) of the links at least 0.08 sqrt(fck)/fyk; without links, or without a tension
+ * layer, it is 2, and cotangent and link_resistance are 0. */
 typedef struct {
     uint64_t refusal, u;
     int64_t mrd;
     uint64_t other_u;
     int64_t other_mrd;
-    uint64_t vrd, dm, area;
+    uint64_t vrd, dm, area, cotangent, link_resistance;
     uint64_t verdicts[SALWOERK_VERDICTS];
 } salwoerk_report;
 salwoerk_report salwoerk_check(salwoerk_section section, salwoerk_load load);
 
-/* Read a record; bytes after it are ignored. Refusals: 20 21 22 23, section tests, load tests. The length is answered on success, on 23 and on
- * the section's and the load's. */
+/* Read a record; bytes after it are ignored. Refusals: 20 21 22 23, section tests, load tests, link tests. The length is answered on success, on 23
+ * and on the section's, the load's and the links'. links.present is 1 where the record has links; else all of links is 0. */
 typedef struct {
     uint64_t refusal;
     size_t length;
@@ -183,10 +208,10 @@ typedef struct {
 salwoerk_reading salwoerk_read(const uint8_t *bytes, size_t length);
 
 /* A record has at most as many bytes. */
-#define SALWOERK_RECORD_ROOM 188
+#define SALWOERK_RECORD_ROOM 196
 
-/* Write a record into the buffer. Refusals: section tests, load tests, 25. A success answers the length and changes that many first bytes and no
- * others; a refusal changes none. */
+/* Write a record into the buffer. Refusals: section tests, load tests, link tests, 25. A success answers the length and changes that many first
+ * bytes and no others; a refusal changes none. */
 typedef struct { uint64_t refusal; size_t length; } salwoerk_written;
 salwoerk_written salwoerk_write(salwoerk_section section, salwoerk_load load, uint8_t *buffer, size_t length);
 

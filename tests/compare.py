@@ -31,7 +31,7 @@ import second
 from met import LIBRARY_REFUSALS, LIST_REFUSALS
 from damaged import Run
 from samples import all_samples, record
-from tally import Tally, check_accuracy
+from tally import Tally, check_accuracy, check_stated
 
 PATIENCE = 20         # seconds for one run of the program
 PIPE_PAUSE = 0.0005   # seconds between two pieces of a slow input
@@ -135,12 +135,20 @@ def inspect(tally, rng, answers):
                 check_accuracy(tally, rng, section, load, report.u, report.mrd, second.as_compressed(section, load.m))
 
 
+def compare_stated(tally, samples):
+    """second.py beside the paper, for the links that were meant to turn verdict six or to tie."""
+    for sample in samples:
+        if sample.sixth is not None or sample.cotangent is not None:
+            check_stated(tally, sample, second.check(sample.section, sample.load))
+
+
 def compare_program(tally, rng, program, samples):
     """The whole comparison of the list program."""
     def anyhow(section, load):
         """One of the records that mean the same."""
         return sampling.any_record(rng, section, load)
 
+    compare_stated(tally, [*all_samples(), *samples])
     whole = [*joined("boundary", all_samples(), record), *joined("random", samples, anyhow)]
     for answers in compare_runs(tally, program, whole):
         inspect(tally, rng, answers)

@@ -1,18 +1,16 @@
 """Inputs of the list program: records cut, spoiled, spread out or too many.
 
-Each run is one standard input with the refusals that document 01 states for
-its lines, in order.
+Each run is one standard input with the refusals that documents 01 and 02 state
+for its lines, in order.
 """
 
 from itertools import combinations
 from typing import NamedTuple, Optional
 
 import second
-from samples import I64_MAX, SIXTEEN, record
-from second import EXAMPLE, Load
+from samples import I64_MAX, SIXTEEN, U32_MAX, linked, record
+from second import EXAMPLE, LINK_BIT, LINKED_EXAMPLE, Load
 
-FULL = record(SIXTEEN, Load(1_000, -2_000, 3_000))
-assert len(FULL) == second.LONGEST_RECORD
 ROOM = second.INPUT_ROOM
 MAP_0 = bytes(4)
 
@@ -31,6 +29,11 @@ def fields_of(data):
     return second.fields_read(data, second.bits_that_stand(data))
 
 
+# Every field that a record can have: with links N is 0, so the writer alone never writes it.
+FULL = second.assemble({**fields_of(record(linked(SIXTEEN), Load(0, -2_000, 3_000))), 4: second.signed_bytes(0)})
+assert len(FULL) == second.LONGEST_RECORD
+
+
 def choices(bits):
     """Every choice of the bits, none and all included."""
     return [chosen for number in range(len(bits) + 1) for chosen in combinations(bits, number)]
@@ -38,7 +41,7 @@ def choices(bits):
 
 def cut_runs():
     """Cut at every byte: 20 below 4 bytes, 22 below the length."""
-    for whole in (EXAMPLE, FULL):
+    for whole in (EXAMPLE, LINKED_EXAMPLE, FULL):
         for size in range(len(whole) + 1):
             refusal = 20 if size < 4 else 22 if size < len(whole) else 0
             last = (refusal,) if size else ()  # nothing left is no record
@@ -83,23 +86,55 @@ def leftover_runs():
 def gap_runs():
     """'Layer bits may have gaps; layers are taken by rising bit.'"""
     fields, places = fields_of(FULL), second.LAYER_BITS
-    signed = {bit: value for bit, value in fields.items() if bit not in places}
+    others = {bit: value for bit, value in fields.items() if bit not in places}
     layers = [value for bit, value in fields.items() if bit in places]
     for bits in (places[-1:], (places[0], places[-1]), places[1:3], places[-2:], places[::2],
                  places[1::2], (10, 13, 14, 20), places[1:]):
-        spread = second.assemble({**signed, **dict(zip(bits, layers))})
-        close = second.assemble({**signed, **dict(zip(second.LAYER_BITS, layers[:len(bits)]))})
+        spread = second.assemble({**others, **dict(zip(bits, layers))})
+        close = second.assemble({**others, **dict(zip(second.LAYER_BITS, layers[:len(bits)]))})
         yield Run(f"layer bits {tuple(bits)}", spread + close, (0, 0))
-    yield Run("no layer bit", second.assemble(signed) + EXAMPLE, (5, 0))
+    yield Run("no layer bit", second.assemble(others) + EXAMPLE, (5, 0))
 
 
 def present_zero_runs():
     """'a present 0 is read too': each choice of N, M, V there with what its absence means."""
     optional = {field.bit: second.signed_bytes(field.missing) for field in second.OPTIONAL_FIELDS}
-    always = {bit: value for bit, value in fields_of(EXAMPLE).items() if bit not in optional}
-    for present in choices(tuple(optional)):
-        given = {bit: optional[bit] for bit in present}
-        yield Run(f"present {present}", second.assemble({**always, **given}), (0,))
+    for whole in (EXAMPLE, LINKED_EXAMPLE):  # with links an N that is there is no 29 as long as it is 0
+        always = {bit: value for bit, value in fields_of(whole).items() if bit not in optional}
+        for present in choices(tuple(optional)):
+            given = {bit: optional[bit] for bit in present}
+            yield Run(f"present {present}", second.assemble({**always, **given}), (0,))
+
+
+def with_links(area, spacing, **signed):
+    """The example with a link field of these numbers, in range or not; `signed` adds fields by name."""
+    bits = {field.name: field.bit for field in second.FIELDS}
+    added = {bits[name]: second.signed_bytes(value) for name, value in signed.items()}
+    return second.assemble({**fields_of(EXAMPLE), LINK_BIT: second.pair_bytes(area, spacing), **added})
+
+
+def link_runs():
+    """Bit 7 as a field (02, request 3): after 27, 28 and 29 the list goes on."""
+    for area, spacing, refusal in (
+            (0, 0, 27), (0, 200, 27), (1, 25, 0), (101, 338, 0), (338, 101, 0), (5_000, 1_000, 0), (5_001, 200, 27),
+            (5_001, 24, 27), (U32_MAX, 200, 27), (101, 0, 28), (101, 24, 28), (101, 1_001, 28), (101, U32_MAX, 28)):
+        yield Run(f"links {area}/{spacing}", with_links(area, spacing) + EXAMPLE, (refusal, 0))
+    for n, refusal in ((-1, 29), (0, 0), (1, 29), (-651_691, 29), (2_505_001, 29), (500_000_001, 8), (I64_MAX, 8)):
+        yield Run(f"links, N {n}", with_links(101, 200, n=n) + LINKED_EXAMPLE, (refusal, 0))
+    yield Run("10 before 27", with_links(0, 0, v=500_000_001) + EXAMPLE, (10, 0))
+    yield Run("27 before 29", with_links(0, 200, n=1) + EXAMPLE, (27, 0))
+    yield Run("28 before 29", with_links(101, 24, n=1) + EXAMPLE, (28, 0))
+
+
+def link_bit_runs():
+    """The map's tests come before those of links, and bit 7 alone is no longer 21."""
+    bare = second.assemble({LINK_BIT: bytes(8)})
+    yield Run("bit 7 alone", bare + EXAMPLE, (23, 0))
+    yield Run("bit 7 alone, cut", EXAMPLE + bare[:-1], (0, 22))
+    yield Run("22 before 27", EXAMPLE + with_links(0, 0)[:-1], (0, 22))
+    for bit in second.FORBIDDEN_BITS:
+        spoiled = {**fields_of(with_links(0, 0)), bit: bytes(8)}
+        yield Run(f"bit {bit} before 27", EXAMPLE + second.assemble(spoiled) + EXAMPLE, (0, 21))
 
 
 def size_runs():
@@ -129,5 +164,5 @@ def slow_runs():
 def all_runs():
     """Every fixed run of this file."""
     for group in (cut_runs, forbidden_bit_runs, missing_bit_runs, leftover_runs, gap_runs,
-                  present_zero_runs, size_runs, slow_runs):
+                  present_zero_runs, link_runs, link_bit_runs, size_runs, slow_runs):
         yield from group()

@@ -15,12 +15,17 @@ LIES(salwoerk_layer, area, 4, 4);
 TAKES(salwoerk_grade, 16);
 LIES(salwoerk_grade, fck, 0, 8);
 LIES(salwoerk_grade, fyk, 8, 8);
-TAKES(salwoerk_section, 168);
+TAKES(salwoerk_links, 16);
+LIES(salwoerk_links, present, 0, 8);
+LIES(salwoerk_links, area, 8, 4);
+LIES(salwoerk_links, spacing, 12, 4);
+TAKES(salwoerk_section, 184);
 LIES(salwoerk_section, layers, 0, 128);
 LIES(salwoerk_section, width, 128, 8);
 LIES(salwoerk_section, height, 136, 8);
 LIES(salwoerk_section, grade, 144, 16);
-LIES(salwoerk_section, count, 160, 8);
+LIES(salwoerk_section, links, 160, 16);
+LIES(salwoerk_section, count, 176, 8);
 TAKES(salwoerk_load, 24);
 LIES(salwoerk_load, n, 0, 8);
 LIES(salwoerk_load, m, 8, 8);
@@ -31,7 +36,7 @@ LIES(salwoerk_depth, depth, 8, 8);
 TAKES(salwoerk_moment, 16);
 LIES(salwoerk_moment, refusal, 0, 8);
 LIES(salwoerk_moment, moment, 8, 8);
-TAKES(salwoerk_report, 104);
+TAKES(salwoerk_report, 128);
 LIES(salwoerk_report, refusal, 0, 8);
 LIES(salwoerk_report, u, 8, 8);
 LIES(salwoerk_report, mrd, 16, 8);
@@ -40,17 +45,20 @@ LIES(salwoerk_report, other_mrd, 32, 8);
 LIES(salwoerk_report, vrd, 40, 8);
 LIES(salwoerk_report, dm, 48, 8);
 LIES(salwoerk_report, area, 56, 8);
-LIES(salwoerk_report, verdicts, 64, 40);
-TAKES(salwoerk_reading, 208);
+LIES(salwoerk_report, cotangent, 64, 8);
+LIES(salwoerk_report, link_resistance, 72, 8);
+LIES(salwoerk_report, verdicts, 80, 48);
+TAKES(salwoerk_reading, 224);
 LIES(salwoerk_reading, refusal, 0, 8);
 LIES(salwoerk_reading, length, 8, 8);
-LIES(salwoerk_reading, section, 16, 168);
-LIES(salwoerk_reading, load, 184, 24);
+LIES(salwoerk_reading, section, 16, 184);
+LIES(salwoerk_reading, load, 200, 24);
 TAKES(salwoerk_written, 16);
 LIES(salwoerk_written, refusal, 0, 8);
 LIES(salwoerk_written, length, 8, 8);
 
-_Static_assert(SALWOERK_VERSION == 20000, "2.0.0");
+_Static_assert(SALWOERK_VERSION == 30000, "3.0.0");
+_Static_assert(SALWOERK_RECORD_ROOM == 196, "a map, seven numbers, the links and sixteen layers");
 
 /* ---- the calls */
 static int passed, failed;
@@ -78,7 +86,16 @@ static salwoerk_section section_a(void)
     return a;
 }
 
-/* Sixteen layers, and no two numbers alike. */
+static salwoerk_section linked_a(uint32_t area, uint32_t spacing)
+{
+    salwoerk_section a = section_a();
+    a.links.present = 1;
+    a.links.area = area;
+    a.links.spacing = spacing;
+    return a;
+}
+
+/* Sixteen layers, and no two numbers alike; the links are there for whoever sets present. */
 static salwoerk_section distinct_section(void)
 {
     salwoerk_section s = section_a();
@@ -86,6 +103,8 @@ static salwoerk_section distinct_section(void)
     s.height = 1702;
     s.grade.fck = 35;
     s.grade.fyk = 503;
+    s.links.area = 907;
+    s.links.spacing = 311;
     s.count = SALWOERK_LAYERS;
     for (uint32_t i = 0; i < SALWOERK_LAYERS; i++) {
         s.layers[i].depth = 101 + 7 * i;
@@ -102,50 +121,84 @@ static uint8_t *put(uint8_t *at, uint64_t number, int bytes)
     return at;
 }
 
-/* The record of the two, written here by the scope document alone. */
-static void distinct_record(uint8_t *at)
+/* Map and fields of a record, written here by the scope document and request 3 alone; its length. */
+static size_t record_of(uint32_t map, const salwoerk_section *s, salwoerk_load load, uint8_t *bytes)
 {
-    salwoerk_section s = distinct_section();
-    int64_t fields[] = { 1301, 1702, 35, 503, -601, 700001, -80003 };
-    at = put(at, 0x00FFFF7F, 4);
-    for (int i = 0; i < 7; i++) at = put(at, (uint64_t)fields[i], 8);
-    for (int i = 0; i < SALWOERK_LAYERS; i++) at = put(put(at, s.layers[i].depth, 4), s.layers[i].area, 4);
+    int64_t fields[] = { s->width, s->height, s->grade.fck, s->grade.fyk, load.n, load.m, load.v };
+    uint8_t *at = put(bytes, map, 4);
+    for (int i = 0; i < 7; i++)
+        if (map >> i & 1) at = put(at, (uint64_t)fields[i], 8);
+    if (map >> 7 & 1) at = put(put(at, s->links.area, 4), s->links.spacing, 4);
+    for (size_t i = 0; i < s->count; i++) at = put(put(at, s->layers[i].depth, 4), s->layers[i].area, 4);
+    return (size_t)(at - bytes);
 }
 
-static void round_trip(void)
+/* The reading is of these numbers. */
+static void require_read(salwoerk_reading r, size_t length, const salwoerk_section *s, salwoerk_load load)
+{
+    require("read", r.refusal == 0 && r.length == length);
+    require("layers", !memcmp(r.section.layers, s->layers, sizeof s->layers) && r.section.count == s->count);
+    require("width, height", r.section.width == s->width && r.section.height == s->height);
+    require("fck, fyk", r.section.grade.fck == s->grade.fck && r.section.grade.fyk == s->grade.fyk);
+    require("N, M, V", r.load.n == load.n && r.load.m == load.m && r.load.v == load.v);
+    if (s->links.present)
+        require("links", r.section.links.present == 1 && r.section.links.area == s->links.area && r.section.links.spacing == s->links.spacing);
+    else
+        require("no links, and zeros", !r.section.links.present && !r.section.links.area && !r.section.links.spacing);
+}
+
+static void round_trip(const salwoerk_section *s, salwoerk_load load, uint32_t map)
 {
     uint8_t expected[SALWOERK_RECORD_ROOM], buffer[SALWOERK_RECORD_ROOM + 1];
-    salwoerk_section s = distinct_section();
-    distinct_record(expected);
+    size_t length = record_of(map, s, load, expected);
     memset(buffer, 0xA5, sizeof buffer);
 
-    salwoerk_written short_by_one = salwoerk_write(s, distinct_load, buffer, SALWOERK_RECORD_ROOM - 1);
+    salwoerk_written short_by_one = salwoerk_write(*s, load, buffer, length - 1);
     require("25 for a buffer one byte short", short_by_one.refusal == SALWOERK_SHORT_BUFFER && short_by_one.length == 0 && buffer[0] == 0xA5);
-    salwoerk_written written = salwoerk_write(s, distinct_load, buffer, sizeof buffer);
-    require("the longest record", written.refusal == 0 && written.length == SALWOERK_RECORD_ROOM);
-    require("each field in its place of the record", !memcmp(buffer, expected, sizeof expected));
-    require("no byte beyond the record", buffer[SALWOERK_RECORD_ROOM] == 0xA5);
+    salwoerk_written written = salwoerk_write(*s, load, buffer, sizeof buffer);
+    require("the record's length", written.refusal == 0 && written.length == length);
+    require("each field in its place of the record", !memcmp(buffer, expected, length));
+    require("no byte beyond the record", buffer[length] == 0xA5);
+    require_read(salwoerk_read(buffer, sizeof buffer), length, s, load);
+}
 
-    salwoerk_reading r = salwoerk_read(buffer, sizeof buffer);
-    require("read", r.refusal == 0 && r.length == SALWOERK_RECORD_ROOM);
-    require("layers", !memcmp(r.section.layers, s.layers, sizeof s.layers) && r.section.count == s.count);
-    require("width, height", r.section.width == 1301 && r.section.height == 1702);
-    require("fck, fyk", r.section.grade.fck == 35 && r.section.grade.fyk == 503);
-    require("N, M, V", r.load.n == -601 && r.load.m == 700001 && r.load.v == -80003);
+/* With N and without links, with links and without N, and with links and a present 0 for N, which is the longest record that is read. */
+static void records(void)
+{
+    uint8_t longest[SALWOERK_RECORD_ROOM];
+    salwoerk_section s = distinct_section();
+    salwoerk_load load = distinct_load;
+    round_trip(&s, load, 0x00FFFF7F);
+    s.links.present = 1;
+    load.n = 0;
+    round_trip(&s, load, 0x00FFFFEF);
+    require("the longest record", record_of(0x00FFFFFF, &s, load, longest) == sizeof longest);
+    require_read(salwoerk_read(longest, sizeof longest), sizeof longest, &s, load);
+}
+
+static int all_zeros(const salwoerk_reading *r)
+{
+    static const salwoerk_section zeros = SALWOERK_SECTION_INIT;
+    return !memcmp(&r->section, &zeros, sizeof zeros) && !r->load.n && !r->load.m && !r->load.v;
 }
 
 static void refused_reading(void)
 {
-    static const salwoerk_section zeros = SALWOERK_SECTION_INIT;
     uint8_t bytes[SALWOERK_RECORD_ROOM];
-    distinct_record(bytes);
-    salwoerk_reading cut = salwoerk_read(bytes, sizeof bytes - 1);
-    require("22 and zeros", cut.refusal == SALWOERK_CUT_RECORD && cut.length == 0 && !memcmp(&cut.section, &zeros, sizeof zeros)
-        && !cut.load.n && !cut.load.m && !cut.load.v);
-    bytes[11] = 49;
-    bytes[10] = 0;
-    salwoerk_reading narrow = salwoerk_read(bytes, sizeof bytes);
-    require("1 with its length", narrow.refusal == SALWOERK_WIDTH && narrow.length == sizeof bytes && narrow.section.count == 0);
+    salwoerk_section s = distinct_section();
+    salwoerk_load load = { 0, 700001, -80003 };
+    record_of(0x00FFFFFF, &s, load, bytes);
+    salwoerk_reading r = salwoerk_read(bytes, sizeof bytes - 1);
+    require("22 and zeros", r.refusal == SALWOERK_CUT_RECORD && r.length == 0 && all_zeros(&r));
+    bytes[0] = 1;
+    r = salwoerk_read(bytes, sizeof bytes);
+    require("21 and zeros", r.refusal == SALWOERK_UNKNOWN_BIT && r.length == 0 && all_zeros(&r));
+    s.links.area = 0;
+    r = salwoerk_read(bytes, record_of(0x00FFFFFF, &s, load, bytes));
+    require("27 of a present area of 0, with its length and zeros", r.refusal == SALWOERK_LINK_AREA && r.length == sizeof bytes && all_zeros(&r));
+    s.width = 49;
+    r = salwoerk_read(bytes, record_of(0x00FFFFFF, &s, load, bytes));
+    require("1 with its length and zeros", r.refusal == SALWOERK_WIDTH && r.length == sizeof bytes && all_zeros(&r));
 }
 
 static void answers(void)
@@ -165,6 +218,7 @@ static void answers(void)
     require("Check, the other face", r.other_u == 419 && r.other_mrd == 6312569);
     r = salwoerk_check(section_a(), over);
     require("verdict one fails alone", r.verdicts[0] == SALWOERK_FAIL && !r.verdicts[1] && !r.verdicts[2] && !r.verdicts[3] && !r.verdicts[4]);
+    require("verdict six is not reached without links", r.verdicts[5] == SALWOERK_NOT_REACHED && !r.cotangent && !r.link_resistance);
     load.n = 2505000;
     r = salwoerk_check(section_a(), load);
     require("verdicts two to four are not reached", r.verdicts[0] == SALWOERK_FAIL && r.verdicts[1] == SALWOERK_NOT_REACHED
@@ -172,7 +226,7 @@ static void answers(void)
     load.n = 500000001;
     r = salwoerk_check(section_a(), load);
     require("a refusal has zeros", r.refusal == SALWOERK_AXIAL_FORCE && !r.u && !r.mrd && !r.other_u && !r.other_mrd && !r.vrd && !r.dm
-        && !r.area);
+        && !r.area && !r.cotangent && !r.link_resistance);
     for (size_t i = 0; i < SALWOERK_VERDICTS; i++) require("and verdicts 2", r.verdicts[i] == SALWOERK_NOT_REACHED);
 }
 
@@ -199,13 +253,91 @@ static void both_faces(void)
         && !turned.other_mrd);
 }
 
+/* Section A with links: the cotangent in tenths, the resistance, and verdict six at the turn of each of its three conditions. */
+static void links(void)
+{
+    static const struct { uint32_t area, spacing; int64_t v; uint64_t cotangent, resistance, verdict; } cases[] = {
+        { 101, 200, 80000, 25, 222308, SALWOERK_PASS }, { 500, 50, 80000, 10, 641520, SALWOERK_PASS }, { 200, 100, 80000, 16, 563474, SALWOERK_PASS },
+        { 101, 200, 222308, 25, 222308, SALWOERK_PASS }, { 101, 200, -222308, 25, 222308, SALWOERK_PASS },
+        { 101, 200, 222309, 25, 222308, SALWOERK_FAIL }, { 101, 200, -222309, 25, 222308, SALWOERK_FAIL },
+        { 101, 337, 80000, 25, 131933, SALWOERK_PASS }, { 101, 338, 80000, 25, 131543, SALWOERK_FAIL }, /* 0.75 dm is 337.5 */
+        { 53, 200, 80000, 25, 116656, SALWOERK_PASS }, { 52, 200, 80000, 25, 114455, SALWOERK_FAIL },   /* the least ratio */
+    };
+    for (size_t i = 0; i < sizeof cases / sizeof *cases; i++) {
+        salwoerk_load load = { 0, 200000000, cases[i].v };
+        salwoerk_report r = salwoerk_check(linked_a(cases[i].area, cases[i].spacing), load);
+        require("cotangent and link resistance", r.refusal == 0 && r.cotangent == cases[i].cotangent && r.link_resistance == cases[i].resistance);
+        require("verdict six", r.verdicts[5] == cases[i].verdict);
+        require("the rest as without links", r.u == 1358 && r.mrd == 257986051 && r.vrd == 86851 && r.dm == 450 && r.area == 1500
+            && r.verdicts[2] == (uint64_t)(cases[i].v > 86851 || cases[i].v < -86851));
+    }
+}
+
+/* At cotangents 2.3 and 2.4 the lesser resistance is the same: the links' at one, the strut's at the other. */
+static void tie(void)
+{
+    salwoerk_section s = linked_a(312, 365);
+    salwoerk_load load = { 0, 1, 0 };
+    s.width = 200;
+    s.height = 300;
+    s.grade.fck = 35;
+    s.layers[0].depth = 250;
+    salwoerk_report r = salwoerk_check(s, load);
+    require("the smallest cotangent on a tie", r.refusal == 0 && r.cotangent == 23 && r.link_resistance == 192327);
+}
+
+/* Absent is 0 and no other number; what stands beside it then never matters. */
+static void present(void)
+{
+    static const uint64_t there[] = { 1, 2, 256, 1ull << 32, 1ull << 63, UINT64_MAX };
+    salwoerk_load load = { 0, 200000000, 80000 };
+    salwoerk_section a = linked_a(101, 200);
+    for (size_t i = 0; i < sizeof there / sizeof *there; i++) {
+        a.links.present = there[i];
+        salwoerk_report r = salwoerk_check(a, load);
+        require("links are present", r.refusal == 0 && r.cotangent == 25 && r.verdicts[5] == SALWOERK_PASS);
+    }
+    a = linked_a(0, UINT32_MAX);
+    a.links.present = 0;
+    load.n = 1;
+    salwoerk_report r = salwoerk_check(a, load);
+    require("links are absent", r.refusal == 0 && !r.cotangent && !r.link_resistance && r.verdicts[5] == SALWOERK_NOT_REACHED);
+}
+
+/* 27 28 29 in this sequence, after 10 and before 11, in Check, Read and Write; Find a depth and Moment at a depth do not look at links. */
+static void refused_links(void)
+{
+    static const struct { uint32_t area, spacing; int64_t n, v; uint64_t refusal; } cases[] = {
+        { 0, 200, 0, 0, SALWOERK_LINK_AREA }, { 1, 200, 0, 0, SALWOERK_ACCEPTED }, { 5000, 200, 0, 0, SALWOERK_ACCEPTED },
+        { 5001, 200, 0, 0, SALWOERK_LINK_AREA }, { 101, 24, 0, 0, SALWOERK_LINK_SPACING }, { 101, 25, 0, 0, SALWOERK_ACCEPTED },
+        { 101, 1000, 0, 0, SALWOERK_ACCEPTED }, { 101, 1001, 0, 0, SALWOERK_LINK_SPACING }, { 101, 200, 1, 0, SALWOERK_LINKS_WITH_AXIAL_FORCE },
+        { 101, 200, -651691, 0, SALWOERK_LINKS_WITH_AXIAL_FORCE }, { 101, 24, 1, 0, SALWOERK_LINK_SPACING }, { 0, 24, 1, 0, SALWOERK_LINK_AREA },
+        { 0, 24, 1, 500000001, SALWOERK_SHEAR_FORCE },
+    };
+    uint8_t record[SALWOERK_RECORD_ROOM];
+    for (size_t i = 0; i < sizeof cases / sizeof *cases; i++) {
+        salwoerk_section a = linked_a(cases[i].area, cases[i].spacing);
+        salwoerk_load load = { cases[i].n, 0, cases[i].v };
+        salwoerk_report r = salwoerk_check(a, load);
+        require("Check, 27 28 29", r.refusal == cases[i].refusal);
+        require("zeros and a 2 where it is refused", !r.refusal || (!r.u && !r.cotangent && !r.link_resistance
+            && r.verdicts[5] == SALWOERK_NOT_REACHED));
+        require("Write, 27 28 29", salwoerk_write(a, load, record, sizeof record).refusal == cases[i].refusal);
+        salwoerk_reading reading = salwoerk_read(record, record_of(0x000001DF, &a, load, record));
+        require("Read, 27 28 29, with its length", reading.refusal == cases[i].refusal && reading.length == 68);
+        require("zeros where it is refused", !reading.refusal || all_zeros(&reading));
+        require("Find a depth without links", salwoerk_find_depth(a, 0).depth == 1358);
+        require("Moment at a depth without links", salwoerk_moment_at(a, 1358).moment == 257986051);
+    }
+}
+
 static void list(void)
 {
-    static const char line[] = "1 0 1358 257986051 86851 450 1500 0 0 0 0 0\n";
+    static const char line[] = "1 0 1358 257986051 86851 450 1500 0 0 0 0 0 0\n";
     uint8_t record[SALWOERK_RECORD_ROOM], text[SALWOERK_LIST_ROOM(SALWOERK_RECORD_ROOM)];
     salwoerk_load load = { 0, 200000000, 80000 };
-    size_t length = salwoerk_write(section_a(), load, record, sizeof record).length, room = SALWOERK_LIST_ROOM(length);
-    require("the record of 60 bytes", length == 60);
+    size_t length = salwoerk_write(linked_a(101, 200), load, record, sizeof record).length, room = SALWOERK_LIST_ROOM(length);
+    require("the record of 60 bytes, and 8 of links", length == 68);
     memset(text, 0xA5, sizeof text);
 
     salwoerk_written w = salwoerk_list(record, length, text, room - 1);
@@ -221,7 +353,8 @@ static void list(void)
 /* Each number has a text of its own, and what is none has the text of none. */
 static void texts(void)
 {
-    static const uint64_t refusals[] = { 0, 1, 2, 3, 4, 5, 6, 7, 8, 9, 10, 11, 12, 13, 20, 21, 22, 23, 25, 26 };
+    static const uint64_t refusals[] = { 0, 1, 2, 3, 4, 5, 6, 7, 8, 9, 10, 11, 12, 13, 20, 21, 22, 23, 25, 26, 27, 28, 29 };
+    static const uint64_t none[] = { 14, 19, 24, 30 };
     size_t count = sizeof refusals / sizeof *refusals;
     int alike = 0;
     for (size_t i = 0; i < count; i++) {
@@ -229,21 +362,28 @@ static void texts(void)
         for (size_t j = 0; j < i; j++) alike += !strcmp(salwoerk_refusal_text(refusals[i]), salwoerk_refusal_text(refusals[j]));
     }
     require("one text a refusal", !alike);
-    require("no refusal 14, 19, 24", salwoerk_refusal_text(14) == salwoerk_refusal_text(19) && salwoerk_refusal_text(19) == salwoerk_refusal_text(24));
+    for (size_t i = 0; i < 4; i++) require("no refusal 14, 19, 24, 30", salwoerk_refusal_text(none[i]) == salwoerk_refusal_text(99));
     require("Table 3.1 behind 3", !strcmp(salwoerk_refusal_clause(SALWOERK_CONCRETE), "Table 3.1") && !*salwoerk_refusal_clause(SALWOERK_WIDTH));
     require("verdict one is 6.1", !strcmp(salwoerk_verdict_clause(0), "6.1"));
     require("verdict five is 9.2.1.1(3)", !strcmp(salwoerk_verdict_clause(4), "9.2.1.1(3)") && *salwoerk_verdict_question(4));
-    require("no sixth verdict", !*salwoerk_verdict_clause(5) && !*salwoerk_verdict_question(5));
+    require("verdict six is 6.2.3", !strcmp(salwoerk_verdict_clause(5), "6.2.3") && *salwoerk_verdict_question(5));
+    require("no seventh verdict", !*salwoerk_verdict_clause(6) && !*salwoerk_verdict_question(6));
+    require("links with N are refused by no clause", !*salwoerk_refusal_clause(SALWOERK_LINKS_WITH_AXIAL_FORCE));
+    require("bit 7 is no unknown bit", !strstr(salwoerk_refusal_text(SALWOERK_UNKNOWN_BIT), "bit 7"));
     require("verdicts in words", !strcmp(salwoerk_verdict_text(0), "pass") && !strcmp(salwoerk_verdict_text(1), "fail")
         && !strcmp(salwoerk_verdict_text(2), "not reached"));
 }
 
 int main(void)
 {
-    round_trip();
+    records();
     refused_reading();
     answers();
     both_faces();
+    links();
+    tie();
+    present();
+    refused_links();
     list();
     texts();
     printf("%d passed, %d failed\n", passed, failed);

@@ -10,23 +10,24 @@ import ctypes
 from ctypes import POINTER, c_int64, c_size_t, c_uint8, c_uint32, c_uint64
 
 import second
-from samples import SIXTEEN, Sample, UNDER_LOAD, all_samples, record, with_layer
-from second import Layer, Load, Section
-from tally import check_accuracy, check_accuracy_of_faces
+from samples import SIXTEEN, U32_MAX, Sample, UNDER_LOAD, all_samples, record, with_layer
+from second import LINK_TESTS, NO_LINKS, Layer, Links, Load, Section
+from tally import check_accuracy, check_accuracy_of_faces, check_stated
 
 # --- table 1: structs -------------------------------------------------------
 
 STRUCTS = {
     "Layer": [("depth", c_uint32), ("area", c_uint32)],
     "Grade": [("fck", c_int64), ("fyk", c_int64)],
+    "Links": [("present", c_uint64), ("area", c_uint32), ("spacing", c_uint32)],
     "Section": [("layers", "Layer", 16), ("width", c_int64), ("height", c_int64),
-                ("grade", "Grade"), ("count", c_size_t)],
+                ("grade", "Grade"), ("links", "Links"), ("count", c_size_t)],
     "Load": [("n", c_int64), ("m", c_int64), ("v", c_int64)],
     "Depth": [("refusal", c_uint64), ("u", c_uint64)],
     "Moment": [("refusal", c_uint64), ("moment", c_int64)],
     "Report": [("refusal", c_uint64), ("u", c_uint64), ("mrd", c_int64), ("other_u", c_uint64),
                ("other_mrd", c_int64), ("vrd", c_uint64), ("dm", c_uint64), ("area", c_uint64),
-               ("verdicts", c_uint64, second.VERDICTS)],
+               ("cotangent", c_uint64), ("link_resistance", c_uint64), ("verdicts", c_uint64, second.VERDICTS)],
     "Reading": [("refusal", c_uint64), ("length", c_size_t), ("section", "Section"),
                 ("load", "Load")],
     "Written": [("refusal", c_uint64), ("length", c_size_t)],
@@ -100,7 +101,8 @@ class Engine:
         return self.structs["Section"](
             layers=(self.structs["Layer"] * second.PLACES)(*places),
             width=section.width, height=section.height,
-            grade=self.structs["Grade"](fck=section.fck, fyk=section.fyk), count=section.count)
+            grade=self.structs["Grade"](fck=section.fck, fyk=section.fyk),
+            links=self.structs["Links"](**section.links._asdict()), count=section.count)
 
     def load(self, load):
         """A load as the library takes it."""
@@ -120,15 +122,17 @@ class Engine:
         """The report, verdicts as numbers."""
         answer = self.calls["check"](self.section(section), self.load(load))
         return second.Report(answer.refusal, answer.u, answer.mrd, answer.other_u, answer.other_mrd,
-                             answer.vrd, answer.dm, answer.area, tuple(answer.verdicts))
+                             answer.vrd, answer.dm, answer.area, answer.cotangent, answer.link_resistance,
+                             tuple(answer.verdicts))
 
     def read(self, data):
-        """The reading, with every place of the section's layers."""
+        """The reading, with every place of the section's layers and the number that says of links."""
         answer = self.calls["read"](lent(data), len(data))
         given = answer.section
         layers = tuple(Layer(layer.depth, layer.area) for layer in given.layers)
+        links = Links(given.links.present, given.links.area, given.links.spacing)
         section = Section(width=given.width, height=given.height, fck=given.grade.fck,
-                          fyk=given.grade.fyk, count=given.count, layers=layers)
+                          fyk=given.grade.fyk, count=given.count, layers=layers, links=links)
         return second.Reading(answer.refusal, answer.length, section,
                               Load(n=answer.load.n, m=answer.load.m, v=answer.load.v))
 
@@ -156,6 +160,22 @@ def beyond_count(rng, section):
     return section._replace(layers=tuple(places) + tuple(rest))
 
 
+def as_any_links(rng, section):
+    """Links that mean the same: present by any number but 0, absent with any numbers."""
+    if section.links == NO_LINKS:
+        numbers = (rng.choice((0, 101, 5_001, U32_MAX, rng.getrandbits(32))) for _ in range(2))
+        return section._replace(links=Links(0, *numbers))
+    if section.links.present == 1:
+        present = rng.choice((1, 1, 2, 256, 2**32, 2**63, 2**64 - 1, rng.randint(1, 2**64 - 1)))
+        return section._replace(links=section.links._replace(present=present))
+    return section
+
+
+def links_refused(section, load):
+    """The link test that fails, or 0."""
+    return second.first_failing(second.link_tests(section, load))
+
+
 def count_samples():
     """Test 5 for counts that no record carries, alone and before 6 and 7."""
     for count in (0, 17, 18, 2**32 + 1, 2**63, 2**64 - 1):
@@ -176,7 +196,9 @@ def hexadecimal(section, load):
     """Section and load as they were handed over, in hexadecimal."""
     numbers = {**section._asdict(), **load._asdict()}
     layers = " ".join(f"{layer.depth:x}/{layer.area:x}" for layer in numbers.pop("layers"))
-    return " ".join(f"{name} {value:x}" for name, value in numbers.items()) + " layers " + layers
+    present, area, spacing = numbers.pop("links")
+    links = f" links {present:x} {area:x}/{spacing:x}"
+    return " ".join(f"{name} {value:x}" for name, value in numbers.items()) + links + " layers " + layers
 
 
 def compare_depth(tally, rng, engine, sample):
@@ -186,6 +208,8 @@ def compare_depth(tally, rng, engine, sample):
     tally.compare(f"Find a depth, {sample.label}", hexadecimal(section, load),
                   second.find_depth(section, load.n), answer)
     refusal, u = answer
+    tally.coverage.note_call("Find a depth answers where Check refuses the links",
+                             refusal == 0 and links_refused(section, load) != 0)
     if refusal == 0:
         _, moment = engine.moment(section, u)
         check_accuracy(tally, rng, section, load, u, moment, second.upright(section))
@@ -196,17 +220,33 @@ def compare_moment(tally, rng, engine, sample):
     for u in depths_for_moment(rng, sample.section):
         expected = second.moment_at_depth(sample.section, u)
         tally.coverage.refusals[expected[0]] += expected[0] == 13
+        tally.coverage.note_call("Moment at a depth answers where Check refuses the links",
+                                 expected[0] == 0 and links_refused(sample.section, sample.load) != 0)
         tally.compare(f"Moment at depth {u}, {sample.label}",
                       hexadecimal(sample.section, sample.load),
                       expected, engine.moment(sample.section, u))
 
 
+def note_presence(tally, section, load, answer):
+    """Count how Check was told of links."""
+    present, *numbers = section.links
+    accepted = answer.refusal == 0
+    tally.coverage.note_call("Check accepts links present by another number than 1", accepted and present > 1)
+    tally.coverage.note_call("Check accepts links present by a number whose low 32 bits are 0",
+                             accepted and present > 0 and present % 2**32 == 0)
+    tally.coverage.note_call("Check accepts absent links with numbers out of range", accepted and present == 0
+                             and links_refused(section._replace(links=Links(1, *numbers)), second.NO_LOAD) != 0)
+    tally.coverage.note_call("Check accepts absent links and N not 0", accepted and present == 0 and load.n != 0)
+
+
 def compare_check(tally, rng, engine, sample):
-    """Check, and demand 3 with its own MRd of each face."""
+    """Check, what the papers state of it, and demand 3 with its own MRd of each face."""
     section, load = sample.section, sample.load
     answer = engine.check(section, load)
     tally.compare(f"Check, {sample.label}", hexadecimal(section, load),
                   second.check(section, load), answer)
+    check_stated(tally, sample, answer)
+    note_presence(tally, section, load, answer)
     if answer.refusal == 0:
         check_accuracy_of_faces(tally, rng, section, load, answer)
 
@@ -222,6 +262,10 @@ def compare_write(tally, rng, engine, sample):
         expected = second.write_record(section, load, buffer)
         memory[GUARD:GUARD + room] = buffer
         tally.coverage.refusals[25] += expected[0] == 25
+        tally.coverage.note_call("Write sets bit 7 for a present other than 1",
+                                 expected[0] == 0 and section.links.present > 1)
+        for number in LINK_TESTS:
+            tally.coverage.note_call(f"Write: {number} before 25", expected[0] == number and room == 0)
         tally.compare(f"Write a record, room {room}, {sample.label}",
                       hexadecimal(section, load), (expected, bytes(memory)), answer)
 
@@ -235,7 +279,8 @@ def compare_read(tally, engine, label, data):
 def compare_read_back(tally, rng, engine, sample):
     """The sample's record and bytes after it, read again: the same section and load.
 
-    A sample out of range has its refusal; a count above 16 has no record.
+    A sample out of range has its refusal; a count above 16 has no record. Links
+    come back present by 1, or absent with zeros.
     """
     section, load = sample.section, sample.load
     if section.count > second.PLACES:
@@ -245,7 +290,8 @@ def compare_read_back(tally, rng, engine, sample):
     expected = second.read_record(data)
     if expected.refusal == 0:
         empty = (Layer(0, 0),) * (second.PLACES - section.count)
-        kept = section._replace(layers=second.counted(section) + empty)
+        links = section.links._replace(present=1) if second.has_links(section) else NO_LINKS
+        kept = section._replace(layers=second.counted(section) + empty, links=links)
         expected = second.Reading(0, len(written), kept, load)
     tally.compare(f"Read back, {sample.label}", data.hex(), expected, engine.read(data))
 
@@ -271,9 +317,9 @@ SAMPLE_COMPARISONS = (
 
 
 def compare_samples(tally, rng, engine, samples):
-    """Every call that takes a section, with any bytes beyond its layers."""
+    """Every call that takes a section, with any bytes beyond its layers and any that say the same of links."""
     for sample in samples:
-        sample = sample._replace(section=beyond_count(rng, sample.section))
+        sample = sample._replace(section=as_any_links(rng, beyond_count(rng, sample.section)))
         for needed, comparison in SAMPLE_COMPARISONS:
             if engine.calls.keys() >= set(needed):
                 comparison(tally, rng, engine, sample)

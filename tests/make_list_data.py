@@ -2,16 +2,17 @@
 """Write the check list program's input and the output that it must have.
 
 The input is the 60-byte example of document 01, "The list", then records
-that meet every refusal after which a list goes on, and a 22 at the end.
+that meet every refusal after which a list goes on, with and without the links
+of request 3 of 02, and a 22 at the end.
 Both files come from the second implementation (second.py), which is written
 from the paper, and not from the program.
 """
 
 from pathlib import Path
 
-from second import (EXAMPLE, EXAMPLE_LIST, LAYER_BITS, MANDATORY_BITS, NO_LOAD, OPTIONAL_FIELDS,
-                    SECTION_A, SEQUENCES, UNREADABLE, Layer, Load, assemble, fields_written,
-                    layer_bytes, list_answers, list_text, section_of, signed_bytes)
+from second import (EXAMPLE, EXAMPLE_LIST, FAIL, LAYER_BITS, LINKED_EXAMPLE, MANDATORY_BITS, NO_LOAD,
+                    OPTIONAL_FIELDS, PASS, SECTION_A, SEQUENCES, TIE, UNREADABLE, Layer, Load, assemble,
+                    fields_written, layer_bytes, list_answers, list_text, section_of, signed_bytes, with_links)
 
 CRATE = Path(__file__).resolve().parent.parent / "crates" / "check_list"
 
@@ -64,6 +65,50 @@ def accepted():
     ]
 
 
+def linked(area, spacing, load=NO_LOAD, section=SECTION_A):
+    """Section A, or another, with links."""
+    return record(with_links(section, area, spacing), load)
+
+
+def with_links_and_axial_zero():
+    """Links, and N present as 0: no 29."""
+    fields = fields_written(with_links(SECTION_A, 101, 200), NO_LOAD)
+    return assemble({**fields, **{field.bit: signed_bytes(field.missing) for field in OPTIONAL_FIELDS}})
+
+
+def with_link_verdict():
+    """Records with links and their verdict six: each of its three conditions at both sides."""
+    high = SECTION_A._replace(fck=90)
+    exact = section_of(250, 500, 25, 500, [(400, 1_500)])  # 20/100 has the least ratio, 300 is 0.75·dm
+    return [
+        (LINKED_EXAMPLE, PASS),
+        (linked(101, 200, Load(0, 0, 222_308)), PASS),
+        (linked(101, 200, Load(0, 0, 222_309)), FAIL),
+        (linked(101, 200, Load(0, 0, -222_308)), PASS),
+        (linked(101, 200, Load(0, 0, -222_309)), FAIL),
+        (linked(500, 50, Load(0, 0, 641_520)), PASS),
+        (linked(500, 50, Load(0, 0, 641_521)), FAIL),
+        (linked(200, 100, Load(0, 0, 563_474)), PASS),
+        (linked(200, 100, Load(0, 0, 563_475)), FAIL),
+        (linked(101, 337), PASS),
+        (linked(101, 338), FAIL),
+        (linked(338, 101), PASS),
+        (linked(53, 200), PASS),
+        (linked(52, 200), FAIL),
+        (linked(20, 100, section=exact), PASS),
+        (linked(19, 100, section=exact), FAIL),
+        (linked(60, 300, section=exact), PASS),
+        (linked(61, 301, section=exact), FAIL),
+        (linked(101, 37, Load(0, -1, 68_895)), PASS),
+        (linked(101, 37, Load(0, -1, 68_896)), FAIL),
+        (linked(101, 38, Load(0, -1, 0)), FAIL),
+        (linked(500, 50, Load(0, 0, 1_399_680), high), PASS),
+        (linked(500, 50, Load(0, 0, 1_399_681), high), FAIL),
+        (record(TIE), FAIL),
+        (with_links_and_axial_zero(), PASS),
+    ]
+
+
 def refused():
     """A record for each refusal of Check, at the edge of its range, and for 23."""
     return [
@@ -78,6 +123,13 @@ def refused():
         record(load=Load(500_000_001, 0, 0)),  # 8
         record(load=Load(0, -(2**63), 0)),     # 9
         record(load=Load(0, 0, -500_000_001)),  # 10
+        linked(0, 24),                         # 27: before 28
+        linked(5_001, 200),                    # 27
+        linked(101, 24),                       # 28
+        linked(101, 1_001, Load(1, 0, 0)),     # 28: before 29
+        linked(101, 200, Load(1, 0, 0)),       # 29
+        linked(101, 200, Load(-651_691, 0, 0)),  # 29: before 11
+        linked(0, 200, Load(0, 0, 500_000_001)),  # 10: before 27
         record(load=Load(-651_691, 0, 0)),     # 11
         record(load=Load(2_505_001, 0, 0)),    # 12
         record(load=Load(2_505_001, -1, 0)),   # 12: of the top, which M does not compress
@@ -88,10 +140,13 @@ def refused():
 
 def main():
     """Write the two files, after a look at what they must have."""
-    data = EXAMPLE + b"".join(accepted() + refused()) + record()[:-1]
+    verdicts = with_link_verdict()
+    data = EXAMPLE + b"".join(accepted() + [piece for piece, _ in verdicts] + refused()) + record()[:-1]
     text = list_text(data)
     assert len(EXAMPLE) == 60
     assert text.startswith(EXAMPLE_LIST)
+    for piece, sixth in verdicts:
+        assert [report.verdicts[5] for _, _, report in list_answers(piece)] == [sixth], piece.hex()
     met = {report.refusal for _, _, report in list_answers(data)}
     ended_by = {*UNREADABLE} - {22}
     assert met == {0, *SEQUENCES["Read a record"], *SEQUENCES["Check"]} - ended_by, met

@@ -1,13 +1,14 @@
-"""What the compared records met: refusals, verdicts, and the turns of 01.
+"""What the compared records met: refusals, verdicts, and the turns of 01 and 02.
 
 A comparison that never met a refusal or a verdict has shown nothing about it,
-so each one that 01 makes reachable has to be met at least once.
+so each one that the papers make reachable has to be met at least once.
 """
 
 from collections import Counter
 from math import ceil, floor
 
 import second
+from samples import last_spacing, least_link_area
 
 LIST_REFUSALS = tuple(dict.fromkeys(
     second.SEQUENCES["Read a record"] + second.SEQUENCES["Check"] + second.SEQUENCES["List program"]))
@@ -15,8 +16,9 @@ LIBRARY_REFUSALS = tuple(dict.fromkeys(
     number for call in ("Find a depth", "Moment at a depth", "Write a record")
     for number in second.SEQUENCES[call] if number not in LIST_REFUSALS))
 
-# 01 leaves verdicts one and five never "not reached" in an accepted record.
-REACHABLE = ((0, 1), (0, 1, 2), (0, 1, 2), (0, 1, 2), (0, 1))
+# 01 leaves verdicts one and five never "not reached" in an accepted record. Verdict six is so without
+# links; links ask for N 0, under which an accepted section has a tension layer.
+REACHABLE = ((0, 1), (0, 1, 2), (0, 1, 2), (0, 1, 2), (0, 1), (0, 1, 2))
 assert len(REACHABLE) == second.VERDICTS
 
 
@@ -98,6 +100,55 @@ def steel_turns(seen, load, report):
     yield "9.2.1.1(1): only 0.0013 fails", by_strength and not by_ratio
 
 
+def link_bounds(seen, load, report):
+    """The three conditions of verdict six at their bounds, for a record with links."""
+    links, most = seen.links, report.link_resistance
+    yield from beside("|V| is the link resistance", abs(load.v), most)
+    yield "V < 0 is minus the link resistance", load.v == -most < 0
+    yield "V < 0 is minus the link resistance - 1", load.v == -most - 1
+    yield from beside("spacing is the last within 0.75·dm", links.spacing, last_spacing(report.dm))
+    yield "spacing is 0.75·dm itself", 4 * links.spacing == 3 * report.dm
+    yield from beside("link area is the least of its ratio", links.area, least_link_area(seen, links.spacing))
+    yield "the link ratio is the least itself", (
+        625 * (links.area * seen.fyk)**2 == 4 * seen.fck * (links.spacing * seen.width)**2)
+
+
+def link_reasons(seen, load, report):
+    """Why verdict six passes or fails, and verdict three beside it."""
+    reasons = {"|V|": abs(load.v) > report.link_resistance, "spacing": not second.spacing_suits(seen, report.dm),
+               "ratio": not second.link_ratio_suits(seen)}
+    for name, fails in reasons.items():
+        alone = fails and sum(reasons.values()) == 1
+        yield f"v6 fails by {name} alone", alone and report.verdicts[5] == second.FAIL
+    yield "v6 fails by all three", all(reasons.values()) and report.verdicts[5] == second.FAIL
+    yield "v6 fails by |V| alone, by a newton", (
+        report.verdicts[5] == second.FAIL and list(reasons.values()) == [True, False, False]
+        and abs(load.v) == report.link_resistance + 1)
+    yield "v6 passes at |V| of the resistance", (
+        report.verdicts[5] == second.PASS and abs(load.v) == report.link_resistance)
+    yield "v6 passes and v3 fails", report.verdicts[5] == second.PASS and report.verdicts[2] == second.FAIL
+    yield "v6 fails and v3 passes", report.verdicts[5] == second.FAIL and report.verdicts[2] == second.PASS
+
+
+def cotangent_turns(seen, load, report):
+    """Which cotangent answers, and which of the two resistances it is."""
+    def lesser(tenths):
+        return second.lesser_resistance(seen, report.dm, tenths)
+
+    steel, strut = (resistance(seen, report.dm, report.cotangent)
+                    for resistance in (second.steel_resistance, second.strut_resistance))
+    as_much = [tenths for tenths in second.COTANGENTS if lesser(tenths) == report.link_resistance]
+    yield "the links resist less than the strut", steel < strut
+    yield "the strut resists less than the links", strut < steel
+    yield "two cotangents tie", len(as_much) == 2
+    yield "all cotangents tie", len(as_much) == len(second.COTANGENTS)
+    yield "the link resistance is 0", report.link_resistance == 0
+    yield "links, fck above 50", seen.fck > 50
+    yield "links, turned over", load.m < 0
+    for tenths in second.COTANGENTS:
+        yield f"cotangent {tenths}", report.cotangent == tenths
+
+
 def turns(section, load, report):
     """The names of all turns that an accepted record meets."""
     seen = second.as_compressed(section, load.m)
@@ -106,6 +157,9 @@ def turns(section, load, report):
              ("25 times all areas is b·h", 25 * area == seen.width * seen.height)]
     if report.area:
         found += [*shear_turns(seen, load, report), *steel_turns(seen, load, report)]
+    if second.has_links(seen):
+        found += [*link_bounds(seen, load, report), *link_reasons(seen, load, report),
+                  *cotangent_turns(seen, load, report)]
     return found
 
 
@@ -129,6 +183,10 @@ class Coverage:
         for name, met in turns(section, load, report):
             self.turns[name] += met
 
+    def note_call(self, name, met):
+        """Count what one call of the library met."""
+        self.turns[name] += met
+
     def note_axial_turns(self, section, load):
         """Count where N of a sample stands that is accepted, 11 or 12."""
         for name, met in axial_turns(section, load):
@@ -149,6 +207,6 @@ class Coverage:
         yield "verdicts of accepted records    pass      fail  not reached"
         for place, counter in enumerate(self.verdicts, 1):
             yield f"  v{place}                     {counter[0]:11}{counter[1]:10}{counter[2]:13}"
-        yield "where the boundary and random records stand: N, then all else of those accepted"
+        yield "where the boundary and random records stand: N, then all else of those accepted, then calls with links"
         for name, times in self.turns.items():
             yield f"  {name}: {times}"

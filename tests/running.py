@@ -1,4 +1,4 @@
-"""What the tests of the commands share: how a command is run, and section A as text and as bytes."""
+"""What the tests of the commands share: how a command is run, and section A as text and as bytes, without links and with them."""
 
 import subprocess
 import sys
@@ -11,9 +11,10 @@ sys.dont_write_bytecode = True
 TOP = Path(__file__).resolve().parent.parent
 EXAMPLES = TOP / "examples"
 PATIENCE = 60  # seconds for one command
-FIRST_LINE = b"rec ref u mrd vrd dm as v1 v2 v3 v4 v5\n"
+FIRST_LINE = b"rec ref u mrd vrd dm as v1 v2 v3 v4 v5 v6\n"
 SECTION_A_TEXT = "300 500 30 500 0 200000000 80000 450/1500\n"
-SECTION_A_LINE = b"1 0 1358 257986051 86851 450 1500 0 0 0 0 0\n"
+SECTION_A_LINE = b"1 0 1358 257986051 86851 450 1500 0 0 0 0 0 2\n"
+REFUSED = b" 0 0 0 0 0 2 2 2 2 2 2\n"  # of a line, after number and refusal
 
 # 01: "Input of 60 bytes, hexadecimal map 0000016F, fields 300, 500, 30, 500,
 # M 200,000,000, V 80,000, one layer 450 and 1,500", written out by hand
@@ -26,6 +27,10 @@ SECTION_A_BYTES = bytes.fromhex(
     "000000000BEBC200"  # M 200,000,000
     "0000000000013880"  # V 80,000
     "000001C2" "000005DC")  # layer: 450 and 1,500
+
+# The same with links of 101 mm² every 200 mm: bit 7 stands, and its field lies between V and the layer
+LINKED_A_TEXT = "300 500 30 500 0 200000000 80000 links=101/200 450/1500\n"
+LINKED_A_BYTES = bytes.fromhex("000001EF") + SECTION_A_BYTES[4:52] + bytes.fromhex("00000065" "000000C8") + SECTION_A_BYTES[52:]
 
 
 def command(tool, *arguments):

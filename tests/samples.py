@@ -1,15 +1,16 @@
-"""Sections and loads at both sides of every bound of document 01.
+"""Sections and loads at both sides of every bound of documents 01 and 02.
 
 Each sample names the refusal that the paper gives it, or None where only the
-comparison of the two implementations decides. Nothing here is random.
+comparison of the two implementations decides; so with the sixth verdict and
+the cotangent. Nothing here is random.
 """
 
 from itertools import combinations
-from math import ceil, floor
+from math import ceil, floor, isqrt
 from typing import NamedTuple, Optional
 
 import second
-from second import Load, Section
+from second import FAIL, NOT_REACHED, PASS, Links, Load, Section
 
 I64_MIN, I64_MAX = -2**63, 2**63 - 1
 U32_MAX = 2**32 - 1
@@ -18,12 +19,14 @@ M_MOST = 10**12
 
 
 class Sample(NamedTuple):
-    """A section under a load, and the refusal that 01 states for it."""
+    """A section under a load, and what the papers state for it."""
 
     label: str
     section: Section
     load: Load
     refusal: Optional[int] = None
+    sixth: Optional[int] = None      # verdict six of request 3 of 02
+    cotangent: Optional[int] = None  # of the same request, in tenths
 
 
 def record(section, load):
@@ -43,6 +46,12 @@ def with_layer(section, place, **change):
     layers = list(section.layers)
     layers[place] = layers[place]._replace(**change)
     return section._replace(layers=tuple(layers))
+
+
+def linked(section, **change):
+    """The section with the links that it has, or 101/200, and some of their numbers changed."""
+    links = section.links if second.has_links(section) else second.links_of(101, 200)
+    return section._replace(links=links._replace(**change))
 
 
 def wild(ordinary):
@@ -129,7 +138,8 @@ def end_samples():
 
 
 # One way to fail each test of Check alone, by its number; 6 fails late and 7
-# early, so that a test which does not ask about all layers first answers 7.
+# early, so that a test which does not ask about all layers first answers 7; 29
+# keeps an N that is not 0, so that it can stand before 11 and 12.
 FAILINGS = {
     1: lambda section, load: (section._replace(width=49), load),
     2: lambda section, load: (section._replace(height=2_001), load),
@@ -141,6 +151,9 @@ FAILINGS = {
     8: lambda section, load: (section, load._replace(n=N_MOST + 1)),
     9: lambda section, load: (section, load._replace(m=-M_MOST - 1)),
     10: lambda section, load: (section, load._replace(v=V_MOST + 1)),
+    27: lambda section, load: (linked(section, area=0), load),
+    28: lambda section, load: (linked(section, spacing=1_001), load),
+    29: lambda section, load: (linked(section), load._replace(n=load.n or -1)),
     11: lambda section, load: (section, load._replace(n=-N_MOST)),
     12: lambda section, load: (section, load._replace(n=N_MOST)),
 }
@@ -235,10 +248,121 @@ def load_presence_samples():
                 yield Sample(f"loads {n} {m} {v}", SIXTEEN, Load(n, m, v), 0)
 
 
+# --- links: request 3 of 02 ---------------------------------------------------
+
+
+def last_spacing(dm):
+    """'the spacing is at most 0.75·dm': the last whole millimetre."""
+    return 3 * dm // 4
+
+
+def least_link_area(section, spacing):
+    """The least area whose ratio is at least 0.08·√fck/fyk: 25·area·fyk ≥ √(4·fck)·spacing·b."""
+    root = 1 + isqrt(4 * section.fck * (spacing * section.width)**2 - 1)  # rounded up
+    return -(-root // (25 * section.fyk))
+
+
+def passes(holds):
+    """Verdict six of links whose one condition in doubt holds or not."""
+    return PASS if holds else FAIL
+
+
+def link_range_samples():
+    """Tests 27, 28 and 29 at both sides of their bounds."""
+    for number, field, least, most in ((27, "area", 1, 5_000), (28, "spacing", 25, 1_000)):
+        inside = (least, least + 1, most - 1, most)
+        for value in (0, least - 1, *inside, most + 1, 2**16 + least, 2**31, U32_MAX):
+            yield Sample(f"link {field} {value}", linked(second.SECTION_A, **{field: value}), second.NO_LOAD,
+                         0 if value in inside else number)
+    for n in (-N_MOST, -651_691, -651_690, -1, 0, 1, 2_505_000, 2_505_001, N_MOST):
+        yield Sample(f"links under N {n}", linked(second.SECTION_A), Load(n, 0, 0), 29 if n else 0)
+
+
+def presence_samples():
+    """Any number but 0 says that links are present; absent ones' numbers never matter, under any N."""
+    a = second.SECTION_A
+    for present in (1, 2, 255, 256, 2**31, 2**32, 2**63, 2**64 - 1):
+        there = a._replace(links=Links(present, 101, 200))
+        yield Sample(f"present {present}", there, second.NO_LOAD, 0, PASS, 25)
+        yield Sample(f"present {present}, area 0", linked(there, area=0), second.NO_LOAD, 27, NOT_REACHED, 0)
+    for area, spacing in ((0, 0), (0, 200), (101, 200), (5_001, 24), (U32_MAX, U32_MAX)):
+        for n, refusal in ((-651_691, 11), (-651_690, 0), (0, 0), (1, 0), (2_505_000, 0), (2_505_001, 12)):
+            yield Sample(f"absent links {area}/{spacing}, N {n}", a._replace(links=Links(0, area, spacing)),
+                         Load(n, 0, 0), refusal, NOT_REACHED, 0)
+
+
+def cotangent_samples():
+    """The cases of request 3, ties, and links that bring the cotangent to each of its tenths."""
+    a = second.SECTION_A
+    for area, spacing, cotangent in ((101, 200, 25), (500, 50, 10), (200, 100, 16)):
+        yield Sample(f"A, links {area}/{spacing}", linked(a, area=area, spacing=spacing), UNDER_LOAD, 0, PASS, cotangent)
+    yield Sample("A, links 1/1000: V, spacing and ratio fail", linked(a, area=1, spacing=1_000), Load(0, 0, 441),
+                 0, FAIL, 25)
+    at_1 = second.section_of(50, 50, 12, 400, [(1, 20_000)])  # dm 1: two struts, or all links, of equal newtons
+    for section in (second.TIE, linked(at_1, area=5_000, spacing=25), linked(at_1, area=1, spacing=1_000)):
+        yield Sample("a tie", section, second.NO_LOAD, 0, FAIL, 23 if section == second.TIE else 10)
+    for area in range(180, 740, 10):  # 0.9·dm, b, fck and fyk of A: from 2.5 to 1.0
+        yield Sample(f"A, links {area}/200", linked(a, area=area), Load(0, 0, -80_000), 0, PASS)
+
+
+# Of each kind: fck 16 and 25 with a ratio that can be the least itself, dm of 4·k, the strut factor
+# of a high class, and many layers.
+LINKED_SECTIONS = (
+    second.SECTION_A, SIXTEEN, SIXTEEN._replace(fck=90, fyk=463),
+    second.section_of(250, 500, 25, 500, [(400, 1_500)]),
+    second.section_of(250, 500, 16, 400, [(400, 1_500), (100, 500)]),
+    second.section_of(2_000, 2_000, 12, 600, [(1_300, 20_000), (60, 7_000)]),
+)
+
+
+def spacing_turns(section, m, last):
+    """The spacing at its last millimetre, with an area that suits beyond it too."""
+    area = least_link_area(section, last + 1)
+    for spacing in (last - 1, last, last + 1):
+        yield Sample(f"M {m}, links {area}/{spacing}", linked(section, area=area, spacing=spacing),
+                     Load(0, m, 0), 0, passes(spacing <= last))
+
+
+def ratio_turns(section, m, last):
+    """The area at the least of its ratio."""
+    least = least_link_area(section, last)
+    for area in (least - 1, least, least + 1):
+        yield Sample(f"M {m}, links {area}/{last}", linked(section, area=area, spacing=last),
+                     Load(0, m, 0), 0, passes(area >= least))
+
+
+def resistance_turns(section, m, last):
+    """V of both signs at the resistance, of the least links and of links that leave it to the strut."""
+    for area in (least_link_area(section, last), 5_000):
+        there = linked(section, area=area, spacing=last)
+        most = second.check(there, Load(0, m, 0)).link_resistance
+        for v in (sign * (most + more) for sign in (1, -1) for more in (-1, 0, 1)):
+            yield Sample(f"M {m}, links {area}/{last}, V {v}", there, Load(0, m, v), 0, passes(abs(v) <= most))
+
+
+def link_turn_samples():
+    """Verdict six at the turn of spacing, of ratio and of V, the other two within, for both faces."""
+    for section in LINKED_SECTIONS:
+        for m in (0, -1):
+            last = last_spacing(second.check(section, Load(0, m, 0)).dm)
+            for turns in (spacing_turns, ratio_turns, resistance_turns):
+                yield from turns(section, m, last)
+
+
+def exact_ratio_samples():
+    """The least ratio itself passes: 0.08·√fck/fyk is 20/(100·250) for 25 and 500 and for 16 and 400."""
+    for fck, fyk in ((25, 500), (16, 400)):
+        section = second.section_of(250, 500, fck, fyk, [(450, 1_500)])
+        for area in (19, 20, 21):
+            yield Sample(f"fck {fck}, links {area}/100", linked(section, area=area, spacing=100), second.NO_LOAD,
+                         0, passes(area >= 20))
+
+
 def all_samples():
     """Every fixed sample of this file."""
     for group in (field_samples, class_samples, count_samples, layer_samples, load_samples,
                   reference_samples, end_samples, order_samples, first_verdict_samples,
                   bending_turn_samples, shear_turn_samples, steel_turn_samples,
-                  size_factor_samples, steel_samples, load_presence_samples):
+                  size_factor_samples, steel_samples, load_presence_samples, link_range_samples,
+                  presence_samples, cotangent_samples, link_turn_samples, exact_ratio_samples):
         yield from group()

@@ -2,15 +2,18 @@
 
 N is taken at the internal force of a whole depth, M at the moment resistance
 of either face, V at the shear resistance, each a unit to either side, and areas
-at the limits of 9.2.1.1. The generator is handed in, so a seed repeats a run.
+at the limits of 9.2.1.1. Links have V, spacing or ratio at the turn of verdict
+six, or two cotangents that resist the same. The generator is handed in, so a
+seed repeats a run.
 """
 
 from math import ceil, floor
 
 import second
 from damaged import Run, fields_of
-from samples import FAILINGS, I64_MAX, I64_MIN, M_MOST, Sample, record, with_layer
-from second import Layer, Load
+from samples import (FAILINGS, I64_MAX, I64_MIN, M_MOST, Sample, last_spacing, least_link_area, linked, passes,
+                     record, with_layer)
+from second import FAIL, LINK_BIT, NOT_REACHED, Layer, Links, Load
 
 
 def edged(rng, least, most):
@@ -104,24 +107,119 @@ def turning_axial_force(rng, seen):
                        beside(rng, ceil(force))))
 
 
-def turning_load(rng, section):
-    """N, then M at an end of verdict one, and V at the resistance that belongs to both.
+def turning_moment(rng, section, n, sign):
+    """M at an end of verdict one: MRd of the top, or minus MRd of the bottom.
 
-    The end is MRd of the top, or minus MRd of the bottom. Where that resistance
-    is negative, M compresses the face of the other end.
+    Where that resistance is negative, M compresses the face of the other end.
     """
+    end = second.check(section, Load(n, sign, 0)).mrd
+    return held(beside(rng, sign * end), -M_MOST, M_MOST)
+
+
+def turning_load(rng, section):
+    """N, then M at an end of verdict one, and V at the resistance that belongs to both."""
     sign = rng.choice((1, -1))
     n = turning_axial_force(rng, second.as_compressed(section, sign))
-    end = second.check(section, Load(n, sign, 0)).mrd
-    m = held(beside(rng, sign * end), -M_MOST, M_MOST)
+    m = turning_moment(rng, section, n, sign)
     shear = max(0, beside(rng, second.check(section, Load(n, m, 0)).vrd))
     return Load(n, m, rng.choice((1, -1)) * shear)
 
 
+# --- links: request 3 of 02 ---------------------------------------------------
+
+
+def any_links(rng):
+    """Links of any numbers, in range or not."""
+    return Links(1, rng.choice((0, 1, 5_000, 5_001, rng.randint(1, 5_000), rng.getrandbits(32))),
+                 rng.choice((0, 24, 25, 1_000, 1_001, rng.randint(25, 1_000), rng.getrandbits(32))))
+
+
+def spacing_within(rng, dm):
+    """A spacing that suits dm."""
+    return rng.randint(25, min(last_spacing(dm), 1_000))
+
+
+def links_within(rng, section, dm):
+    """Links of a spacing and a ratio that suit; their area brings the cotangent to any tenth."""
+    spacing = spacing_within(rng, dm)
+    there = linked(section, area=1, spacing=spacing)
+    tenths = rng.choice(second.COTANGENTS)
+    balanced = second.strut_resistance(there, dm, tenths) // max(1, second.steel_resistance(there, dm, tenths))
+    area = rng.choice((balanced, balanced, rng.randint(1, 5_000)))
+    return linked(there, area=held(area, least_link_area(section, spacing), 5_000))
+
+
+def at_shear_turn(rng, section, m, dm):
+    """|V| at the link resistance: links, V, and whether verdict six passes."""
+    there = links_within(rng, section, dm)
+    most = second.check(there, Load(0, m, 0)).link_resistance
+    shear = max(0, beside(rng, most))
+    return there, rng.choice((1, -1)) * shear, shear <= most
+
+
+def at_spacing_turn(rng, section, m, dm):
+    """The spacing at 0.75·dm."""
+    spacing = held(beside(rng, last_spacing(dm)), 25, 1_000)
+    area = rng.randint(least_link_area(section, spacing), 5_000)
+    return linked(section, area=area, spacing=spacing), 0, spacing <= last_spacing(dm)
+
+
+def at_ratio_turn(rng, section, m, dm):
+    """The area at the least of its ratio."""
+    spacing = spacing_within(rng, dm)
+    least = least_link_area(section, spacing)
+    area = held(beside(rng, least), 1, 5_000)
+    return linked(section, area=area, spacing=spacing), 0, area >= least
+
+
+def linked_sample(rng, label, section):
+    """Links under N 0, one condition of verdict six at its turn and the other two within.
+
+    No spacing suits where dm is below 34; where 11 is given it is 0.
+    """
+    m = turning_moment(rng, section, 0, rng.choice((1, -1)))
+    bare = second.check(section, Load(0, m, 0))
+    if last_spacing(bare.dm) < 25:
+        there = linked(section, area=rng.randint(1, 5_000), spacing=rng.randint(25, 1_000))
+        return Sample(label, there, Load(0, m, 0), bare.refusal, NOT_REACHED if bare.refusal else FAIL)
+    turn = rng.choice((at_shear_turn, at_shear_turn, at_spacing_turn, at_ratio_turn))
+    there, v, holds = turn(rng, section, m, bare.dm)
+    return Sample(label, there, Load(0, m, v), 0, passes(holds))
+
+
+def tie_links(rng, section, dm):
+    """Links whose resistance at a cotangent is the strut's at the next tenth, by search; or none."""
+    tenths = rng.choice(second.COTANGENTS[:-1])
+    strut = second.strut_resistance(section, dm, tenths + 1)
+    for spacing in rng.sample(range(25, 1_001), 300):
+        per_area = second.Fraction(9 * dm * second.materials_of(section).s * tenths, 10_000 * spacing)
+        area = ceil(strut / per_area)
+        if 1 <= area <= 5_000 and floor(area * per_area) == strut:
+            return tenths, second.links_of(area, spacing)
+    return None
+
+
+def tie_sample(rng, label):
+    """Two cotangents next to each other resist the same: the answer is the smaller one."""
+    while True:
+        width, height, sign = rng.randint(50, 400), rng.randint(60, 500), rng.choice((1, -1))
+        depth = rng.randint(20, height - 20)
+        section = second.section_of(width, height, rng.choice(second.CLASSES), rng.randint(400, 600),
+                                    [(depth, rng.randint(100, 3_000))])
+        dm = depth if sign > 0 else height - depth
+        found = tie_links(rng, section, dm)
+        if found:
+            tenths, links = found
+            return Sample(label, section._replace(links=links), Load(0, sign, 0), 0, None, tenths)
+
+
 def spoiled(rng, section, load):
-    """One test made to fail, or one field replaced by any 64-bit number."""
-    if rng.random() < 0.5:
+    """One test made to fail, any links, or one field replaced by any 64-bit number."""
+    kind = rng.random()
+    if kind < 0.5:
         return rng.choice(list(FAILINGS.values()))(section, load)
+    if kind < 0.6:
+        return section._replace(links=any_links(rng)), load
     value = rng.choice((rng.randint(I64_MIN, I64_MAX), rng.randint(-2_100, 2_100)))
     field = rng.choice([field.name for field in second.FIELDS])
     if field in load._fields:
@@ -129,14 +227,24 @@ def spoiled(rng, section, load):
     return section._replace(**{field: value}), load
 
 
+def random_sample(rng, label):
+    """One in fifty is a tie; of the others one in ten is lopsided, one in four has links, one in twelve is spoiled."""
+    if rng.random() < 1 / 50:
+        return tie_sample(rng, label)
+    section = lopsided_section(rng) if rng.random() < 1 / 10 else random_section(rng)
+    if rng.random() < 1 / 4:
+        sample = linked_sample(rng, label, section)
+    else:
+        sample = Sample(label, section, turning_load(rng, section))
+    if rng.random() < 1 / 12:
+        return Sample(label, *spoiled(rng, sample.section, sample.load))
+    return sample
+
+
 def random_samples(rng, number):
-    """As many random samples; one in ten is lopsided, one in twelve is spoiled."""
+    """As many random samples."""
     for place in range(number):
-        section = lopsided_section(rng) if rng.random() < 1 / 10 else random_section(rng)
-        load = turning_load(rng, section)
-        if rng.random() < 1 / 12:
-            section, load = spoiled(rng, section, load)
-        yield Sample(f"random {place + 1}", section, load)
+        yield random_sample(rng, f"random {place + 1}")
 
 
 # --- records and runs -------------------------------------------------------
@@ -173,8 +281,26 @@ def damaged_run(rng, records):
     return Run("damaged at random", bytes(data))
 
 
+def with_link_bit_turned(rng, data):
+    """The record with bit 7 of its map turned; one time in two its field comes or goes with it."""
+    if rng.random() < 0.5:
+        return data[:3] + bytes([data[3] ^ 1 << LINK_BIT]) + data[4:]
+    fields = fields_of(data)
+    if fields.pop(LINK_BIT, None) is None:
+        fields[LINK_BIT] = second.link_bytes(any_links(rng))
+    return second.assemble(fields)
+
+
+def link_bit_run(rng, records):
+    """Some records, one of them with bit 7 turned."""
+    place = rng.randrange(len(records))
+    turned = with_link_bit_turned(rng, records[place])
+    return Run("bit 7 turned at random", b"".join((*records[:place], turned, *records[place + 1:])))
+
+
 def damaged_runs(rng, samples, number):
     """Runs over three to six of the samples each, damaged at random."""
     for _ in range(number):
         chosen = rng.choices(samples, k=rng.randint(3, 6))
-        yield damaged_run(rng, [any_record(rng, sample.section, sample.load) for sample in chosen])
+        records = [any_record(rng, sample.section, sample.load) for sample in chosen]
+        yield rng.choice((damaged_run, damaged_run, link_bit_run))(rng, records)

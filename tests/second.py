@@ -9,7 +9,7 @@ read beside the papers.
 
 Run by itself it answers every row of "Reference cases" and prints 'ok' or
 'DIFFERS' for each; the expected values there are the papers', and the project's
-own for the section that no M suits.
+own for the section that no M suits and for the links.
 """
 
 import sys
@@ -32,8 +32,19 @@ class Layer(NamedTuple):
     area: int   # mm²
 
 
+class Links(NamedTuple):
+    """Vertical links (02, request 3): 'present or absent as a whole'."""
+
+    present: int  # 0 is absent, and then the other two are never read; any other number is present
+    area: int     # mm²
+    spacing: int  # mm
+
+
+NO_LINKS = Links(0, 0, 0)
+
+
 class Section(NamedTuple):
-    """Width b, height h, concrete class, steel, and the counted layers."""
+    """Width b, height h, concrete class, steel, the counted layers, and links."""
 
     width: int   # b, mm
     height: int  # h, mm
@@ -41,6 +52,7 @@ class Section(NamedTuple):
     fyk: int     # N/mm²
     count: int
     layers: tuple  # the places; those beyond the count are never read
+    links: Links
 
 
 class Load(NamedTuple):
@@ -51,11 +63,16 @@ class Load(NamedTuple):
     v: int  # N
 
 
-def section_of(width, height, fck, fyk, layers):
+def section_of(width, height, fck, fyk, layers, links=NO_LINKS):
     """A section whose places beyond its layers hold zeros, as a read one has."""
     given = tuple(Layer(*layer) for layer in layers)
     empty = (Layer(0, 0),) * (PLACES - len(given))
-    return Section(width, height, fck, fyk, len(given), given + empty)
+    return Section(width, height, fck, fyk, len(given), given + empty, links)
+
+
+def links_of(area, spacing):
+    """Links that are there, as a read section has them."""
+    return Links(1, area, spacing)
 
 
 NO_SECTION = section_of(0, 0, 0, 0, ())
@@ -65,6 +82,11 @@ NO_LOAD = Load(0, 0, 0)
 def counted(section):
     """'Places beyond the counted layers are never read.'"""
     return section.layers[:section.count]
+
+
+def has_links(section):
+    """'Links are present or absent as a whole.'"""
+    return section.links.present != 0
 
 
 # --------------------------------------------------------------------------
@@ -292,11 +314,11 @@ def accuracy_holds(seen, n, u, moment_reported, p, q):
 
 
 # --------------------------------------------------------------------------
-# Verdicts, five in this sequence
+# Verdicts, five in this sequence, and the sixth of request 3 of 02
 # --------------------------------------------------------------------------
 
 PASS, FAIL, NOT_REACHED = 0, 1, 2
-VERDICTS = 5  # "Verdicts, five in this sequence"
+VERDICTS = 6  # "Verdicts, five in this sequence", and "a sixth verdict"
 
 
 def verdict(passed):
@@ -399,6 +421,66 @@ def most_steel_verdict(section):
     return verdict(25 * area <= section.width * section.height)
 
 
+# Request 3 of 02: vertical links, 'steel as fyk', by clause 6.2.3
+
+COTANGENTS = range(10, 26)  # "each tenth from 1.0 to 2.5"
+
+
+def lever_arm(dm):
+    """'lever arm 0.9·dm'"""
+    return Fraction(9, 10) * dm
+
+
+def cracked_factor(fck):
+    """'ν = 0.6·(1 − fck/250)'"""
+    return Fraction(6, 10) * (1 - Fraction(fck, 250))
+
+
+def steel_resistance(section, dm, tenths):
+    """'area/spacing times lever arm times s/100 times the cotangent', rounded down once."""
+    links = section.links
+    strength = Fraction(materials_of(section).s, 100)
+    return floor(Fraction(links.area, links.spacing) * lever_arm(dm) * strength * Fraction(tenths, 10))
+
+
+def strut_resistance(section, dm, tenths):
+    """'b times lever arm times ν times g/100, divided by the sum of cotangent and
+    its reciprocal', rounded down once; the 'factor αcw 1' leaves no trace."""
+    cotangent = Fraction(tenths, 10)
+    strength = cracked_factor(section.fck) * Fraction(materials_of(section).g, 100)
+    return floor(section.width * lever_arm(dm) * strength / (cotangent + 1 / cotangent))
+
+
+def lesser_resistance(section, dm, tenths):
+    """The lesser of the two at one cotangent, 'compared so rounded'."""
+    return min(steel_resistance(section, dm, tenths), strut_resistance(section, dm, tenths))
+
+
+def link_resistance(section, dm):
+    """'the cotangent whose lesser resistance is greatest, the smallest cotangent on
+    a tie, and no tenth does better': in tenths, with that resistance."""
+    lesser = {tenths: lesser_resistance(section, dm, tenths) for tenths in COTANGENTS}
+    most = max(lesser.values())
+    return min(tenths for tenths in COTANGENTS if lesser[tenths] == most), most
+
+
+def spacing_suits(section, dm):
+    """'the spacing is at most 0.75·dm'"""
+    return section.links.spacing <= Fraction(3, 4) * dm
+
+
+def link_ratio_suits(section):
+    """'area/(spacing·b) is at least 0.08·√fck/fyk, compared by squares'"""
+    links = section.links
+    return (Fraction(links.area, links.spacing * section.width)**2
+            >= Fraction(8, 100)**2 * section.fck / section.fyk**2)
+
+
+def link_verdict(section, load, dm, resistance):
+    """6. 6.2.3: 'passes when |V| is at most that resistance', and spacing and ratio suit."""
+    return verdict(abs(load.v) <= resistance and spacing_suits(section, dm) and link_ratio_suits(section))
+
+
 class Report(NamedTuple):
     """The answer of Check; a refusal 'returns zeros and verdicts 2'."""
 
@@ -410,12 +492,14 @@ class Report(NamedTuple):
     vrd: int
     dm: int
     area: int  # As
+    cotangent: int        # of the strut, in tenths
+    link_resistance: int  # N
     verdicts: tuple
 
 
 def refused(number):
     """'A refusal returns zeros and verdicts 2.'"""
-    return Report(number, 0, 0, 0, 0, 0, 0, 0, (NOT_REACHED,) * VERDICTS)
+    return Report(number, 0, 0, 0, 0, 0, 0, 0, 0, 0, (NOT_REACHED,) * VERDICTS)
 
 
 def resistance_under(seen, n):
@@ -425,10 +509,10 @@ def resistance_under(seen, n):
 
 
 def report_of(section, load):
-    """The numbers and the five verdicts.
+    """The numbers and the six verdicts.
 
     'The depth and the resistance shown are still those of the face that M
-    compresses' (02, request 1); so are As, dm and VRd,c.
+    compresses' (02, request 1); so are As, dm, VRd,c and what the links resist.
     """
     seen = as_compressed(section, load.m)
     u, mrd = resistance_under(seen, load.n)
@@ -441,8 +525,13 @@ def report_of(section, load):
     else:
         middle = (rotation_verdict(seen, u, dm), shear_verdict(load, vrd),
                   least_steel_verdict(seen, area, dm))
-    verdicts = (bending_verdict(load.m, top, bottom), *middle, most_steel_verdict(seen))
-    return Report(0, u, mrd, other_u, other_mrd, vrd, dm, area, verdicts)
+    if not has_links(seen) or area == 0:  # "it is 2, and cotangent and resistance are 0"
+        cotangent, resistance, sixth = 0, 0, NOT_REACHED
+    else:
+        cotangent, resistance = link_resistance(seen, dm)
+        sixth = link_verdict(seen, load, dm, resistance)
+    verdicts = (bending_verdict(load.m, top, bottom), *middle, most_steel_verdict(seen), sixth)
+    return Report(0, u, mrd, other_u, other_mrd, vrd, dm, area, cotangent, resistance, verdicts)
 
 
 # --------------------------------------------------------------------------
@@ -468,13 +557,14 @@ FIELDS = (
     Field(5, "m", 0),
     Field(6, "v", 0),
 )
+LINK_BIT = 7  # "Bit 7 of the record becomes a field of link area in mm² (4 bytes) and spacing" (02, request 3)
 LAYER_BITS = range(8, 24)  # "Bits 8 to 23: layers"
 
 SIGNED_BITS = tuple(field.bit for field in FIELDS)
 MANDATORY_BITS = tuple(field.bit for field in FIELDS if field.missing is None)
 OPTIONAL_FIELDS = tuple(field for field in FIELDS if field.missing is not None)
-KNOWN_BITS = (*SIGNED_BITS, *LAYER_BITS)
-FORBIDDEN_BITS = tuple(bit for bit in range(32) if bit not in KNOWN_BITS)  # "bit 7 or one of 24 to 31"
+KNOWN_BITS = (*SIGNED_BITS, LINK_BIT, *LAYER_BITS)
+FORBIDDEN_BITS = tuple(bit for bit in range(32) if bit not in KNOWN_BITS)  # "a standing bit 7 is no longer 21"
 
 
 def record_length(bits):
@@ -503,9 +593,24 @@ def signed_bytes(number):
     return number.to_bytes(8, "big", signed=True)
 
 
+def pair_bytes(first, then):
+    """Two unsigned numbers of 4 bytes each."""
+    return first.to_bytes(4, "big") + then.to_bytes(4, "big")
+
+
+def pair_of(field):
+    """The two numbers of such a field."""
+    return int.from_bytes(field[:4], "big"), int.from_bytes(field[4:], "big")
+
+
 def layer_bytes(layer):
     """'an unsigned 4-byte depth and then 4-byte area'"""
-    return layer.depth.to_bytes(4, "big") + layer.area.to_bytes(4, "big")
+    return pair_bytes(layer.depth, layer.area)
+
+
+def link_bytes(links):
+    """'link area in mm² (4 bytes) and spacing in mm (4 bytes)'"""
+    return pair_bytes(links.area, links.spacing)
 
 
 def numbers_of(section, load):
@@ -515,10 +620,13 @@ def numbers_of(section, load):
 
 
 def fields_written(section, load):
-    """'The writer omits a zero N, M or V and uses the lowest layer bits.'"""
+    """'The writer omits a zero N, M or V and uses the lowest layer bits'; it 'sets
+    bit 7 when they are present' (02, request 3)."""
     numbers = numbers_of(section, load)
     fields = {field.bit: signed_bytes(numbers[field.bit]) for field in FIELDS
               if numbers[field.bit] != field.missing}
+    if has_links(section):
+        fields[LINK_BIT] = link_bytes(section.links)
     for bit, layer in zip(LAYER_BITS, counted(section)):
         fields[bit] = layer_bytes(layer)
     return fields
@@ -534,9 +642,9 @@ def meaning(fields):
     numbers = {field.name: int.from_bytes(fields[field.bit], "big", signed=True)
                if field.bit in fields else field.missing for field in FIELDS}
     load = Load(**{name: numbers.pop(name) for name in Load._fields})
-    layers = [Layer(int.from_bytes(fields[bit][:4], "big"), int.from_bytes(fields[bit][4:], "big"))
-              for bit in LAYER_BITS if bit in fields]
-    return section_of(**numbers, layers=layers), load
+    layers = [pair_of(fields[bit]) for bit in LAYER_BITS if bit in fields]
+    links = links_of(*pair_of(fields[LINK_BIT])) if LINK_BIT in fields else NO_LINKS
+    return section_of(**numbers, layers=layers, links=links), load
 
 
 # --------------------------------------------------------------------------
@@ -547,15 +655,16 @@ def meaning(fields):
 # The numbers in the paper's sequence, which need not be a rising one.
 SECTION_TESTS = (1, 2, 3, 4, 5, 6, 7)
 LOAD_TESTS = (8, 9, 10)
+LINK_TESTS = (27, 28, 29)  # of request 3 of 02, "directly after 10"
 FACE_TESTS = (11, 12)
 MAP_TESTS = (20, 21, 22, 23)
 
 SEQUENCES = {
     "Find a depth": (*SECTION_TESTS, 8, *FACE_TESTS),
     "Moment at a depth": (*SECTION_TESTS, 13),
-    "Check": (*SECTION_TESTS, *LOAD_TESTS, *FACE_TESTS),
-    "Read a record": (*MAP_TESTS, *SECTION_TESTS, *LOAD_TESTS),
-    "Write a record": (*SECTION_TESTS, *LOAD_TESTS, 25),
+    "Check": (*SECTION_TESTS, *LOAD_TESTS, *LINK_TESTS, *FACE_TESTS),
+    "Read a record": (*MAP_TESTS, *SECTION_TESTS, *LOAD_TESTS, *LINK_TESTS),
+    "Write a record": (*SECTION_TESTS, *LOAD_TESTS, *LINK_TESTS, 25),
     "List program": (26,),
 }
 
@@ -597,6 +706,22 @@ def load_tests(load):
     )
 
 
+def link_tests(section, load):
+    """'27 area outside 1 to 5,000, 28 spacing outside 25 to 1,000, 29 links present
+    with N not 0' (02, request 3); absent links fail none."""
+    there, links = has_links(section), section.links
+    return (
+        (27, there and outside(links.area, 1, 5_000)),
+        (28, there and outside(links.spacing, 25, 1_000)),
+        (29, there and load.n != 0),
+    )
+
+
+def tests_by_value(section, load):
+    """What Check, reader and writer all ask: the section, load and link tests."""
+    return section_tests(section) + load_tests(load) + link_tests(section, load)
+
+
 def below_range(seen, n):
     """'11 N below the internal force at depth 1'"""
     return n < internal_force(seen, 1)
@@ -636,8 +761,8 @@ def moment_at_depth(section, u):
 
 
 def check(section, load):
-    """Check: section and load tests, then 11, and 12 of either face."""
-    refusal = (first_failing(section_tests(section) + load_tests(load))
+    """Check: section, load and link tests, then 11, and 12 of either face."""
+    refusal = (first_failing(tests_by_value(section, load))
                or first_failing(face_tests(section, load)))
     return refused(refusal) if refusal else report_of(section, load)
 
@@ -660,7 +785,7 @@ def refused_reading(number, length):
 
 
 def read_record(data):
-    """Read a record: 20, 21, 22, 23, then the section and load tests."""
+    """Read a record: 20, 21, 22, 23, then the section, load and link tests."""
     if len(data) < 4:
         return refused_reading(20, 0)
     bits = bits_that_stand(data)
@@ -673,18 +798,18 @@ def read_record(data):
     if refusal:
         return refused_reading(refusal, length)
     section, load = meaning(fields_read(data, bits))
-    refusal = first_failing(section_tests(section) + load_tests(load))
+    refusal = first_failing(tests_by_value(section, load))
     if refusal:
         return refused_reading(refusal, length)
     return Reading(0, length, section, load)
 
 
 def write_record(section, load, buffer):
-    """Write a record: section and load tests, 25. Answers refusal and length.
+    """Write a record: section, load and link tests, 25. Answers refusal and length.
 
     'A success ... changes that many first bytes and no others.'
     """
-    refusal = first_failing(section_tests(section) + load_tests(load))
+    refusal = first_failing(tests_by_value(section, load))
     if refusal:
         return refusal, 0
     record = assemble(fields_written(section, load))
@@ -698,12 +823,13 @@ def write_record(section, load, buffer):
 # The list
 # --------------------------------------------------------------------------
 
-HEADER = "rec ref u mrd vrd dm as v1 v2 v3 v4 v5\n"
+HEADER = "rec ref u mrd vrd dm as v1 v2 v3 v4 v5 v6\n"
 INPUT_ROOM = 65_536
 
 
 def list_line(number, report):
-    """'number from 1, refusal or 0, u, MRd, VRd,c, dm, As, five verdicts'"""
+    """'number from 1, refusal or 0, u, MRd, VRd,c, dm, As, five verdicts', and the
+    sixth; 'neither cotangent nor link resistance is printed' (02, request 3)."""
     values = (number, report.refusal, report.u, report.mrd, report.vrd, report.dm, report.area,
               *report.verdicts)
     return " ".join(str(value) for value in values) + "\n"
@@ -740,11 +866,17 @@ def list_text(data):
 
 SECTION_A = section_of(300, 500, 30, 500, [(450, 1_500)])
 NO_MOMENT_SUITS = section_of(50, 50, 25, 400, [(1, 1_500)])  # under N 0 verdict one has an empty interval
+TIE = section_of(200, 300, 35, 500, [(250, 1_500)], links_of(312, 365))  # cotangents 23 and 24 resist the same
 EXAMPLE = bytes.fromhex(
     "0000016F" "000000000000012C" "00000000000001F4" "000000000000001E"
     "00000000000001F4" "000000000BEBC200" "0000000000013880" "000001C2000005DC")
-EXAMPLE_LIST = ("rec ref u mrd vrd dm as v1 v2 v3 v4 v5\n"
-                "1 0 1358 257986051 86851 450 1500 0 0 0 0 0\n")
+EXAMPLE_LIST = ("rec ref u mrd vrd dm as v1 v2 v3 v4 v5 v6\n"
+                "1 0 1358 257986051 86851 450 1500 0 0 0 0 0 2\n")
+LINKED_EXAMPLE = bytes.fromhex(  # the same with links 101/200 at bit 7
+    "000001EF" "000000000000012C" "00000000000001F4" "000000000000001E"
+    "00000000000001F4" "000000000BEBC200" "0000000000013880" "00000065000000C8" "000001C2000005DC")
+LINKED_LIST = ("rec ref u mrd vrd dm as v1 v2 v3 v4 v5 v6\n"
+               "1 0 1358 257986051 86851 450 1500 0 0 0 0 0 0\n")
 
 
 def equilibrium_rows():
@@ -820,6 +952,118 @@ def clause_rows():
     ]
 
 
+def with_links(section, area, spacing):
+    """The section with these links."""
+    return section._replace(links=links_of(area, spacing))
+
+
+def link_rows():
+    """Request 3 of 02: cotangent and resistance."""
+    def answer(section, links, m=0):
+        report = check(with_links(section, *links), Load(0, m, 0))
+        return report.cotangent, report.link_resistance
+
+    def both(tenths):
+        return steel_resistance(TIE, 250, tenths), strut_resistance(TIE, 250, tenths)
+
+    a, high, at_1 = SECTION_A, SECTION_A._replace(fck=90), section_of(50, 50, 12, 400, [(1, 20_000)])
+    return [
+        ("A, links 101/200: cotangent and resistance", answer(a, (101, 200)), (25, 222_308)),
+        ("A, links 500/50", answer(a, (500, 50)), (10, 641_520)),
+        ("A, links 200/100", answer(a, (200, 100)), (16, 563_474)),
+        ("a tie: links and strut at 23", both(23), (192_327, 198_086)),
+        ("a tie: links and strut at 24", both(24), (200_689, 192_327)),
+        ("a tie: the smallest", answer(TIE, (312, 365)), (23, 192_327)),
+        ("a tie of two struts, dm 1", answer(at_1, (5_000, 25)), (10, 102)),
+        ("a tie of all links at 0 newtons, dm 1", answer(at_1, (1, 1_000)), (10, 0)),
+        ("A, M -1, links 101/37: dm 50", answer(a, (101, 37), -1), (13, 68_895)),
+        ("A with fck 90, links 500/50: g and not f", answer(high, (500, 50)), (10, 1_399_680)),
+        ("A without links", check(a, NO_LOAD)[-3:], (0, 0, (0, 0, 0, 0, 0, 2))),
+    ]
+
+
+def link_verdict_rows():
+    """Request 3 of 02: where verdict six turns, by V, by spacing and by ratio."""
+    def sixth(section, area, spacing, v=0, m=0):
+        return check(with_links(section, area, spacing), Load(0, m, v)).verdicts[5]
+
+    def verdicts(v):
+        return check(with_links(SECTION_A, 101, 200), Load(0, 0, v)).verdicts
+
+    a, at_400 = SECTION_A, section_of(300, 500, 30, 500, [(400, 1_500)])
+    of_25 = section_of(250, 500, 25, 500, [(450, 1_500)])  # 0.08·√25/500 is 20/(100·250)
+    of_16 = section_of(250, 500, 16, 400, [(450, 1_500)])  # and 0.08·√16/400 too
+    return [
+        ("A, links 101/200: V to 222,308", [sixth(a, 101, 200, v) for v in (222_308, 222_309)], [PASS, FAIL]),
+        ("A, links 101/200: V from -222,308", [sixth(a, 101, 200, v) for v in (-222_308, -222_309)], [PASS, FAIL]),
+        ("A, links 101/200: verdict three as ever", verdicts(86_852), (0, 0, 1, 0, 0, 0)),
+        ("A: spacing to 337", [sixth(a, 101, spacing) for spacing in (337, 338)], [PASS, FAIL]),
+        ("dm 400: spacing to 300", [sixth(at_400, 101, spacing) for spacing in (300, 301)], [PASS, FAIL]),
+        ("A, M -1: spacing to 37", [sixth(a, 101, spacing, m=-1) for spacing in (37, 38)], [PASS, FAIL]),
+        ("A, spacing 200: area from 53", [sixth(a, area, 200) for area in (52, 53)], [FAIL, PASS]),
+        ("fck 25: the least ratio itself passes", [sixth(of_25, area, 100) for area in (19, 20)], [FAIL, PASS]),
+        ("fck 16: the least ratio itself passes", [sixth(of_16, area, 100) for area in (19, 20)], [FAIL, PASS]),
+    ]
+
+
+def link_refusal_rows():
+    """Request 3 of 02: 27, 28 and 29 at both ends and in their sequence."""
+    def refusals(area=101, spacing=200, n=0, v=0, room=LONGEST_RECORD, present=1):
+        section, load = SECTION_A._replace(links=Links(present, area, spacing)), Load(n, 0, v)
+        reading = read_record(assemble(fields_written(section, load)))
+        return check(section, load).refusal, reading.refusal, write_record(section, load, bytearray(room))[0]
+
+    def in_all(number):
+        return (number,) * 3
+
+    return [
+        ("27: area 0, 1, 5,000 and 5,001", [refusals(area=area) for area in (0, 1, 5_000, 5_001)],
+         [in_all(27), in_all(0), in_all(0), in_all(27)]),
+        ("28: spacing 24, 25, 1,000 and 1,001", [refusals(spacing=spacing) for spacing in (24, 25, 1_000, 1_001)],
+         [in_all(28), in_all(0), in_all(0), in_all(28)]),
+        ("29: N -1, 0 and 1", [refusals(n=n) for n in (-1, 0, 1)], [in_all(29), in_all(0), in_all(29)]),
+        ("10 before 27", refusals(area=0, v=500_000_001), in_all(10)),
+        ("27 before 28", refusals(area=0, spacing=0), in_all(27)),
+        ("28 before 29", refusals(spacing=0, n=1), in_all(28)),
+        ("29 before 11", refusals(n=-651_691), in_all(29)),
+        ("29 before 12", refusals(n=2_505_001), in_all(29)),
+        ("29 before 25", refusals(n=1, room=0)[2], 29),
+        ("absent links, whatever their numbers", refusals(area=0, spacing=0, n=1, present=0), in_all(0)),
+        ("Find a depth ignores links", find_depth(with_links(SECTION_A, 0, 0), 1), find_depth(SECTION_A, 1)),
+        ("Moment at a depth ignores links", moment_at_depth(with_links(SECTION_A, 0, 0), 1_358), (0, 257_986_051)),
+    ]
+
+
+def link_record_rows():
+    """Request 3 of 02: links in the record."""
+    full = section_of(300, 500, 30, 500, [(450, 100)] * PLACES, links_of(101, 200))
+    load = Load(0, -1, 1)
+    written = bytearray(LONGEST_RECORD)
+    refusal, length = write_record(full._replace(links=Links(2**63, 101, 200)), load, written)
+
+    def longest(n):  # the writer omits N 0, so no record that it writes has all 24 fields
+        reading = read_record(assemble({**fields_written(full, load), 4: signed_bytes(n)}))
+        return reading.refusal, reading.length, reading.section.links
+
+    def bare(area):
+        return read_record(assemble(fields_written(with_links(SECTION_A, area, 200), NO_LOAD)))[:2]
+
+    return [
+        ("a record with links: its length", len(LINKED_EXAMPLE), 68),
+        ("a record with links: what it means", read_record(LINKED_EXAMPLE)[2:],
+         (with_links(SECTION_A, 101, 200), Load(0, 200_000_000, 80_000))),
+        ("a record with links: what it prints", list_text(LINKED_EXAMPLE), LINKED_LIST),
+        ("a record with links: the writer's bytes",
+         assemble(fields_written(with_links(SECTION_A, 101, 200), Load(0, 200_000_000, 80_000))), LINKED_EXAMPLE),
+        ("the longest that is written", (refusal, length), (0, 188)),
+        ("the round trip carries links", read_record(written)[2:], (full, load)),
+        ("the longest, N present as 0", longest(0), (0, 196, links_of(101, 200))),
+        ("the longest, N 1", longest(1), (29, 196, NO_LINKS)),
+        ("bit 7 with area 0", bare(0), (27, 52)),
+        ("bit 7 alone is 23 and no longer 21", read_record(assemble({LINK_BIT: bytes(8)}))[:2], (23, 12)),
+    ]
+
+
 def refusal_rows():
     """The cases of the section tests, and the list printed in 'The list'."""
     def refusal(**change):
@@ -846,21 +1090,24 @@ def sequence_rows():
 
     section = numbers(section_tests(SECTION_A))
     load = numbers(load_tests(NO_LOAD))
+    links = numbers(link_tests(SECTION_A, NO_LOAD))
     face, top = numbers(face_tests(SECTION_A, NO_LOAD)), numbers(top_tests(SECTION_A, 0))
     return [
         ("section tests", section, (1, 2, 3, 4, 5, 6, 7)),
         ("load tests", load, (8, 9, 10)),
-        ("tests of Check", section + load + face, SEQUENCES["Check"]),
+        ("link tests", links, (27, 28, 29)),
+        ("tests of Check", section + load + links + face, SEQUENCES["Check"]),
         ("tests of Find a depth", section + numbers(axial_test(0)) + top, SEQUENCES["Find a depth"]),
-        ("bits of no field", FORBIDDEN_BITS, (7, 24, 25, 26, 27, 28, 29, 30, 31)),
-        ("bytes of the longest record", LONGEST_RECORD, 188),
+        ("bits of no field", FORBIDDEN_BITS, (24, 25, 26, 27, 28, 29, 30, 31)),
+        ("bytes of the longest record", LONGEST_RECORD, 196),
     ]
 
 
 def main():
     """Print every reference case; exit status 1 where one differs."""
     failed = 0
-    rows = equilibrium_rows() + both_faces_rows() + clause_rows() + refusal_rows() + sequence_rows()
+    rows = (equilibrium_rows() + both_faces_rows() + clause_rows() + link_rows() + link_verdict_rows()
+            + link_refusal_rows() + link_record_rows() + refusal_rows() + sequence_rows())
     for name, computed, expected in rows:
         same = computed == expected
         failed += not same

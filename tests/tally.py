@@ -30,6 +30,15 @@ class Tally:
         print(f"FAILS {label}")
 
 
+def check_stated(tally, sample, report):
+    """What the papers state of a sample beside an answer: refusal, verdict six and cotangent."""
+    stated = (sample.refusal, sample.sixth, sample.cotangent)
+    answered = (report.refusal, report.verdicts[5], report.cotangent)
+    for name, expected, got in zip(("refusal", "verdict six", "cotangent"), stated, answered):
+        if expected is not None:
+            tally.compare(f"{name} beside the paper, {sample.label}", f"{sample.section} {sample.load}", expected, got)
+
+
 def depths_compared(rng, section, u):
     """Two fractions p/q of the range: an end, at or just about u and u + 1, or any."""
     last = second.greatest_depth(section)

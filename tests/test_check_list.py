@@ -5,7 +5,7 @@ import shutil
 import stat
 import subprocess
 
-from running import (EXAMPLES, FIRST_LINE, PATIENCE, SECTION_A_BYTES, SECTION_A_LINE, SECTION_A_TEXT, TOP, CommandTest, run)
+from running import (EXAMPLES, FIRST_LINE, LINKED_A_TEXT, PATIENCE, REFUSED, SECTION_A_BYTES, SECTION_A_LINE, SECTION_A_TEXT, TOP, CommandTest, run)
 
 LIST_A = FIRST_LINE + SECTION_A_LINE
 
@@ -35,6 +35,18 @@ class Taken(CommandTest):
         self.assertEqual(run("check-list", "--text", "-", given=SECTION_A_TEXT), (0, LIST_A, ""))
         self.assertEqual(run("check-list", "--text", given=SECTION_A_TEXT), (0, LIST_A, ""))
 
+    def test_text_with_links_reaches_the_sixth_verdict(self):
+        for v, verdicts in ((80_000, b"0 0 0 0 0 0"), (222_308, b"0 0 1 0 0 0"), (222_309, b"0 0 1 0 0 1")):
+            line = b"1 0 1358 257986051 86851 450 1500 " + verdicts + b"\n"
+            self.assertEqual(run("check-list", "--text", given=LINKED_A_TEXT.replace(" 80000 ", f" {v} ")), (0, FIRST_LINE + line, ""))
+
+    def test_text_with_links_that_are_refused(self):
+        for n, links, number in (("0", "0/200", b"27"), ("0", "5001/200", b"27"), ("0", "101/24", b"28"), ("0", "101/1001", b"28"),
+                                 ("1kN", "101/200", b"29")):
+            with self.subTest(n=n, links=links):
+                text = f"300 500 30 500 {n} 0 0 links={links} 450/1500"
+                self.assertEqual(run("check-list", "--text", given=text), (0, FIRST_LINE + b"1 " + number + REFUSED, ""))
+
     def test_text_of_the_longest_input(self):
         status, text, message = run("check-list", "--text", given="- - - - - - -\n" * 16_384)
         self.assertEqual((status, text.count(b"\n"), message), (0, 16_385, ""))
@@ -56,14 +68,14 @@ class Taken(CommandTest):
             runs = [run("check-list", stdin=file)]
         runs += [run("check-list", path), run("check-list", given=path.read_bytes()), run("check-list", given="\ufeffb;h")]
         for status, text, message in runs:
-            self.assertEqual((status, text), (0, FIRST_LINE + b"1 21 0 0 0 0 0 2 2 2 2 2\n"))
+            self.assertEqual((status, text), (0, FIRST_LINE + b"1 21" + REFUSED))
             self.says(message, "looks like text", "--text", "make-record")
 
     def test_records_get_no_hint_and_lose_no_byte(self):
         with open(self.file("a.rec", SECTION_A_BYTES * 2), "rb") as file:
             file.seek(60)
             self.assertEqual(run("check-list", stdin=file), (0, LIST_A, ""))
-        self.assertEqual(run("check-list", given=bytes(2))[1:], (FIRST_LINE + b"1 20 0 0 0 0 0 2 2 2 2 2\n", ""))
+        self.assertEqual(run("check-list", given=bytes(2))[1:], (FIRST_LINE + b"1 20" + REFUSED, ""))
 
     def test_a_note_about_units(self):
         status, _, message = run("check-list", "--text", given="300 500 30 500 0 200 80 450/1500")

@@ -11,7 +11,8 @@ USE = """#include "salwoerk.h"
 int main(void)
 {
     salwoerk_section a = SALWOERK_SECTION_INIT;
-    return (int)a.count + (int)a.layers[SALWOERK_LAYERS - 1].area + *salwoerk_verdict_clause(SALWOERK_VERDICTS);
+    return (int)a.count + (int)a.links.present + (int)a.links.area + (int)a.layers[SALWOERK_LAYERS - 1].area
+        + *salwoerk_verdict_clause(SALWOERK_VERDICTS);
 }
 """
 
@@ -58,10 +59,13 @@ class Library(CommandTest):
         self.assertEqual(status, 0)
         self.assertEqual(text.splitlines()[0], "u 135.8 mm, MRd 257986051 N mm, VRd,c 86851 N, dm 450 mm, As 1500 mm2")
         self.assertEqual(text.splitlines()[1], "the other face: u 41.9 mm, MRd 6312569 N mm")
-        self.assertEqual(text.splitlines()[-1], "9.2.1.1(3), most reinforcement: pass")
+        self.assertEqual(text.splitlines()[2], "with links: VRd 222308 N, cotangent 2.5")
+        self.assertEqual(text.splitlines()[-2], "9.2.1.1(3), most reinforcement: pass")
+        self.assertEqual(text.splitlines()[-1], "6.2.3, |V| at most the links' resistance, their spacing and ratio: pass")
 
     def test_the_example_in_python(self):
-        self.assertEqual(output_of("python3", EXAMPLES / "check.py", SHARED), (0, "0 1358 257986051 419 6312569 86851 450 1500 0 0 0 0 0\n"))
+        self.assertEqual(output_of("python3", EXAMPLES / "check.py", SHARED),
+                         (0, "0 1358 257986051 419 6312569 86851 450 1500 25 222308 0 0 0 0 0 0\n"))
 
     def test_the_library_gives_no_other_names(self):
         _, text = output_of("nm", "-D", "--defined-only", SHARED)

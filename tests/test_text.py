@@ -5,7 +5,7 @@ import pty
 import subprocess
 
 import second
-from running import (EXAMPLES, PATIENCE, SECTION_A_BYTES, SECTION_A_TEXT, TOP, CommandTest, command, run)
+from running import (EXAMPLES, LINKED_A_BYTES, LINKED_A_TEXT, PATIENCE, SECTION_A_BYTES, SECTION_A_TEXT, TOP, CommandTest, command, run)
 
 
 class TextTest(CommandTest):
@@ -205,6 +205,112 @@ class Columns(TextTest):
         self.refused('300;500;"30;500;0;0;0;450/1500', "line 1, column 3", "quotes")
 
 
+class Links(TextTest):
+    """Vertical links: by their name in a line, and in a column of their own below titles."""
+
+    START = "300 500 30 500 0 200000000 80000 "
+    TITLES = "b;h;fck;fyk;N;M;V;links;layers\n"
+
+    def linked(self, *texts):
+        """Texts that mean section A with links of 101 mm² every 200 mm."""
+        for text in texts:
+            with self.subTest(text=text):
+                self.assertEqual(self.made(text), LINKED_A_BYTES)
+
+    def field(self, word):
+        """The field of bit 7 that a word makes."""
+        record = self.made(f"300 500 30 500 0 0 0 {word} 450/1500")
+        self.assertEqual(record[:4].hex(), "0000018f")
+        return record[36:44].hex()
+
+    def test_by_their_name_in_a_line(self):
+        self.linked(LINKED_A_TEXT, self.START + "Links=101/200 450/1500", "300;500;30;500;;200kNm;80kN;links=101/200;450/1500",
+                    "300,500,30,500,,200000000,80000,links=101/200,450/1500", "300\t500\t30\t500\t0\t200kNm\t80kN\tlinks=101/200\t450/1500",
+                    "300;500;30;500;;200kNm;80kN;links=101/200 450/1500")
+
+    def test_anywhere_among_the_layers(self):
+        self.linked(self.START + "450/1500 links=101/200")
+        first, *others = (self.made(self.START + words) for words in (
+            "links=101/200 50/400 450/1500", "50/400 links=101/200 450/1500", "50/400 450/1500 links=101/200"))
+        self.assertEqual((others, len(first)), ([first] * 2, len(LINKED_A_BYTES) + 8))
+
+    def test_area_and_spacing_each_in_its_half_of_the_field(self):
+        for word, field in (("links=101/200", "00000065" "000000c8"), ("links=2x8/200", "00000064" "000000c8"),
+                            ("links=4x10/15cm", "0000013a" "00000096"), ("links=1.01cm2/0.2m", "00000065" "000000c8"),
+                            ("links=1_000mm2/100mm", "000003e8" "00000064")):
+            with self.subTest(word=word):
+                self.assertEqual(self.field(word), field)
+
+    def test_what_the_engine_refuses_can_still_be_written(self):
+        for word, field in (("links=0/0", "00000000" "00000000"), ("links=4294967295/4294967295", "ffffffff" "ffffffff"),
+                            ("links=5001/24", "00001389" "00000018")):
+            self.assertEqual(self.field(word), field)
+        self.assertEqual(self.made("300 500 30 500 1kN 0 0 links=101/200 450/1500")[:4].hex(), "0000019f")
+
+    def test_beside_sixteen_layers(self):
+        self.assertEqual(self.made(self.START + "links=101/200" + " 450/100" * 16)[:4].hex(), "00ffffef")
+        self.refused(self.START + "links=101/200" + " 450/100" * 17, "line 1, column 25", "layer 17", "16")
+
+    def test_twice_is_once_too_often(self):
+        self.refused(SECTION_A_TEXT + LINKED_A_TEXT.strip() + " links=101/200", "line 2, column 10", "'links=101/200' are links again", "expected")
+        self.refused(self.TITLES + "300;500;30;500;;;;101/200;450/1500 links=101/200", "line 2, column 9 (layers)", "links again")
+
+    def test_messages_name_line_column_and_what_was_expected(self):
+        for word, *parts in (("links=101", "'101' is no link", "101/200", "2x8/200"), ("links=1/2/3", "'1/2/3' is no link"),
+                             ("links=", "'' is no link"), ("links", "'links' is no layer", "links=101/200"), ("links=x/200", "of the link 'x/200', 'x'", "mm²", "cm2"),
+                             ("links=101/x", "'x' is no number", "whole number of mm"), ("links=101/20kN", "'20kN' has no unit"),
+                             ("links=101/0.5mm", "not whole in mm"), ("links=-1/200", "does not fit a record"),
+                             ("links=101/4294967296", "does not fit a record", "4294967295 mm"), ("links=2x/200", "'2x'"),
+                             ("links=101/2x8", "'2x8'"), ("links=99999x99999/200", "does not fit a record")):
+            with self.subTest(word=word):
+                self.refused(SECTION_A_TEXT + self.START + word + " 450/1500\n", "standard input, line 2, column 8 (layer)", "expected", *parts)
+
+    def test_before_the_last_number_they_are_none(self):
+        self.refused("300 500 30 500 0 0 links=101/200 450/1500", "column 7 (V)", "'links=101/200' is no number")
+
+    def test_a_diameter_in_place_of_an_area_gets_a_note(self):
+        for text, place in ((self.START + "links=8/200 450/1500", "line 1, column 8 (layer)"),
+                            (self.TITLES + "300;500;30;500;;;;8 / 200;450/1500", "line 2, column 8 (links)")):
+            status, records, message = run("make-record", given=text)
+            self.assertEqual((status, "00000008000000c8" in records.hex()), (0, True))
+            self.says(message, "note", place, "8 mm²", "links=2x8/200")
+        for word in ("links=1x5/200", "links=8mm2/200", "links=25/200"):
+            self.field(word)  # without a note
+
+    def test_a_column_of_links(self):
+        for title in ("links", "Links", "link", "Shear links", "vertical links", "stirrups", "A/s", "Asw/s"):
+            self.linked(f"b;h;fck;fyk;N;M;V;{title};layers\n300;500;30;500;;200kNm;80kN;101/200;450/1500")
+        self.linked("Name,links,layers,b,h,fck,fyk,N,M,V\nBeam 1,101/200,450/1500,300,500,30,500,0,200000000,80000\n",
+                    "layers;b;h;fck;fyk;N;M;V;links\n450/1500;300;500;30;500;;200kNm;80kN;101 mm2 / 20 cm",
+                    self.TITLES + "300;500;30;500;;200kNm;80kN;links=101/200;450/1500",
+                    "b;h;fck;fyk;N;M;V;layers\n300;500;30;500;;200kNm;80kN;links=101/200 450/1500",
+                    "b h fck fyk N M V layers\n" + LINKED_A_TEXT)
+
+    def test_an_empty_cell_or_a_dash_is_no_links(self):
+        for cell in ("", "-", " "):
+            self.same(self.TITLES + f"300;500;30;500;;200kNm;80kN;{cell};450/1500")
+        self.same("layers;b;h;fck;fyk;N;M;V;links\n450/1500;300;500;30;500;;200kNm;80kN")
+
+    def test_a_wrong_cell_of_the_column(self):
+        self.refused("Name;" + self.TITLES + "Beam 7;300;500;30;500;;;;5.03;450/1500",
+                     "line 2 'Beam 7', column 9 (links)", "'5.03' is no link", "101/200")
+
+    def test_titles_that_would_lose_the_links(self):
+        for title in ("links [mm²/mm]", "link area", "Link_spacing", "Area of links", "Asw", "stirrup legs"):
+            with self.subTest(title=title):
+                self.refused(f"b;h;fck;fyk;N;M;V;layers;{title}\n", "line 1, column 9", f"'{title}' is no title of links", "expected 'links'")
+        self.same("Linked to;b;h;fck;fyk;N;M;V;layers\nplan 3;300;500;30;500;;200kNm;80kN;450/1500")
+
+    def test_two_columns_of_links(self):
+        self.refused("b;h;fck;fyk;N;M;V;links;A/s;layers\n", "line 1, column 9", "2 titles 'links'", "expected one")
+
+    def test_no_column_of_links_where_blanks_part(self):
+        self.refused("b h fck fyk N M V links layers\n300 500 30 500 0 0 0 50/400 450/1500", "line 1, column 8", "blanks", "links=101/200")
+
+    def test_the_rule_is_in_the_help(self):
+        self.assertIn("links=A/s", run("make-record", "--help")[1].decode())
+
+
 class Messages(TextTest):
     """File, line, column, and what was expected."""
 
@@ -368,14 +474,17 @@ class ShowRecord(TextTest):
     def test_section_a(self):
         self.assertEqual(self.lines(SECTION_A_BYTES), [SECTION_A_TEXT.split()])
 
+    def test_section_a_with_links(self):
+        self.assertEqual(self.lines(LINKED_A_BYTES), [LINKED_A_TEXT.split()])
+
     def test_no_record_no_line(self):
         self.assertEqual(self.lines(b""), [])
 
     def test_what_make_record_wrote_comes_back_byte_by_byte(self):
         several = self.made("", EXAMPLES / "several.txt")
         extremes = self.made("- 9223372036854775807 -1 0 -9223372036854775808 1kNm -1kN 4294967295/0 0/4294967295\n"
-                             "- - - - - - -\n")
-        for records in (SECTION_A_BYTES, several, extremes):
+                             "- - - - - - -\n- - - - - - - links=0/0\n1 2 3 4 5kN 6kNm 7kN 8/9 links=4294967295/4294967295\n")
+        for records in (SECTION_A_BYTES, LINKED_A_BYTES, several, extremes):
             self.assertEqual(self.back(records), records)
 
     def test_gaps_and_present_zeros_keep_their_meaning(self):
@@ -392,7 +501,7 @@ class ShowRecord(TextTest):
 
     def test_broken_records_are_named_after_the_whole_ones(self):
         for broken, fault in ((b"\0\0", "2 bytes are left"), (SECTION_A_BYTES[:59], "calls for 60 bytes; 59 are left"),
-                              (bytes.fromhex("00000080"), "bit 7"), (bytes.fromhex("81000000"), "bit 24, 31")):
+                              (bytes.fromhex("00000080"), "calls for 12 bytes; 4 are left"), (bytes.fromhex("81000000"), "bit 24, 31")):
             with self.subTest(broken=broken.hex()):
                 status, text, message = run("show-record", given=SECTION_A_BYTES + broken)
                 self.assertEqual(status, 1)
@@ -408,10 +517,14 @@ class Examples(TextTest):
         return second.list_text(self.made("", EXAMPLES / name)).splitlines()[1:]
 
     def test_section_a_prints_the_papers_line(self):
-        self.assertEqual(self.answers("section-a.txt"), ["1 0 1358 257986051 86851 450 1500 0 0 0 0 0"])
+        self.assertEqual(self.answers("section-a.txt"), ["1 0 1358 257986051 86851 450 1500 0 0 0 0 0 2"])
 
-    def test_several_has_one_refusal_as_its_remark_says(self):
-        self.assertEqual([line.split()[1] for line in self.answers("several.txt")], ["0"] * 6 + ["3"])
+    def test_several_has_the_refusals_that_its_remarks_say(self):
+        self.assertEqual([line.split()[1] for line in self.answers("several.txt")], ["0"] * 8 + ["3", "29"])
+
+    def test_several_has_the_verdicts_that_its_remarks_say(self):
+        three_and_six = [(line.split()[9], line.split()[12]) for line in self.answers("several.txt")]
+        self.assertEqual(three_and_six[1:4], [("1", "2"), ("1", "0"), ("1", "1")])
 
     def test_the_export_of_a_spreadsheet(self):
-        self.assertEqual(self.answers("beams.csv"), self.answers("several.txt")[:5])
+        self.assertEqual(self.answers("beams.csv"), self.answers("several.txt")[:7])

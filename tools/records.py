@@ -30,22 +30,25 @@ COLUMNS = (
     Column("M", 5, MOMENT, 0, 14),
     Column("V", 6, FORCE, 0, 10),
 )
+LINKS_BIT = 7
 LAYER_BITS = range(8, 24)
-FIELD_BITS = {column.bit for column in COLUMNS} | set(LAYER_BITS)
+FIELD_BITS = {column.bit for column in COLUMNS} | {LINKS_BIT} | set(LAYER_BITS)
 MAP_BYTES, FIELD_BYTES = 4, 8
 
 
 class Section(NamedTuple):
-    """What a record holds: numbers by the names of their columns, the absent ones left out, and layers (depth, area)."""
+    """What a record holds: numbers by the names of their columns, the absent ones left out, links and layers."""
 
     numbers: dict
-    layers: list
+    links: list   # one (area, spacing), or none
+    layers: list  # (depth, area) each
 
 
 def packed(section):
     """The record, with the lowest layer bits and without a number that is what a missing one means."""
     fields = {column.bit: struct.pack(">q", section.numbers[column.name]) for column in COLUMNS
               if section.numbers.get(column.name, column.missing) != column.missing}
+    fields.update((LINKS_BIT, struct.pack(">II", *links)) for links in section.links)
     fields.update((bit, struct.pack(">II", *layer)) for bit, layer in zip(LAYER_BITS, section.layers))
     bit_map = sum(1 << bit for bit in fields)
     return struct.pack(">I", bit_map) + b"".join(fields[bit] for bit in sorted(fields))
@@ -70,11 +73,12 @@ def bits_of_record(data, start):
 def unpacked(data, start):
     """The section of the record that starts there, and where the next one starts."""
     names = {column.bit: column.name for column in COLUMNS}
-    section, at = Section({}, []), start + MAP_BYTES
+    section, at = Section({}, [], []), start + MAP_BYTES
     for bit in bits_of_record(data, start):
         if bit in names:
             section.numbers[names[bit]], = struct.unpack_from(">q", data, at)
         else:
-            section.layers.append(struct.unpack_from(">II", data, at))
+            pairs = section.links if bit == LINKS_BIT else section.layers
+            pairs.append(struct.unpack_from(">II", data, at))
         at += FIELD_BYTES
     return section, at

@@ -9,7 +9,8 @@ from streams import Complaint
 COMMAND = "show-record"
 HEADING = """\
 # b h and the depths d in mm, fck fyk in N/mm², N V in N, M in N·mm, areas A in mm²;
-# N positive in compression, M positive where it compresses the top.
+# N positive in compression, M positive where it compresses the top;
+# links=A/s are vertical links of area A in mm² every s mm.
 #
 """
 

@@ -11,16 +11,23 @@ RULES = """\
 The text has a section a line, and everything from a '#' on is a remark:
 
   b h fck fyk N M V d/A d/A ...
+  b h fck fyk N M V links=A/s d/A d/A ...
 
-  b h      width and height of the section                   mm, cm, m
-  fck fyk  strength of concrete and steel                    N/mm2, MPa
-  N        axial force, positive in compression              N, kN, MN
-  M        moment about mid-height, positive where it        Nmm, kNm, MNm
-           compresses the top
-  V        shear force                                       N, kN, MN
-  d/A      a layer: its depth from the top face / its area   mm, cm, m / mm2, cm2
-           450/1500, 45cm/15cm2, or with bars: 450/3x16 is three bars of 16 mm,
-           their area by π·d²/4, the sum rounded down to whole mm²
+  b h        width and height of the section                 mm, cm, m
+  fck fyk    strength of concrete and steel                  N/mm2, MPa
+  N          axial force, positive in compression            N, kN, MN
+  M          moment about mid-height, positive where it      Nmm, kNm, MNm
+             compresses the top
+  V          shear force                                     N, kN, MN
+  links=A/s  vertical links, if there are any: the area of   mm2, cm2 / mm, cm, m
+             all legs of a link / the spacing along the
+             member; once, after V or anywhere among the layers
+  d/A        a layer: its depth from the top face / its      mm, cm, m / mm2, cm2
+             area; 450/1500, 45cm/15cm2
+
+Bars may stand for an area: 450/3x16 is a layer of three bars of 16 mm, and
+links=2x8/200 are links of two legs of 8 mm every 200 mm; their area is by
+π·d²/4, the sum rounded down to whole mm².
 
 Numbers. A plain number is whole and in the first unit of its row. With a unit
 directly after it, as in 200kNm, 1.5kN or 45cm, it may have decimals; it is
@@ -37,6 +44,11 @@ sequence and what parts the lines below. All seven stand in it, and at least one
 of layers, layer 1, layer 2 ... or d/A; a cell there may hold several layers
 parted by blanks. A title may give the unit of its plain numbers: M [kNm]. Other
 titles are not read; their cells are the name of the line in messages.
+
+Links below titles stand in one column links (stirrups, A/s), each cell A/s such
+as 101/200 or 2x8/200, empty or '-' for none; or among the layers by their name,
+links=A/s, as they must where blanks part the cells. A title such as 'link area'
+is refused.
 """
 
 ABSENT = "-"
@@ -44,22 +56,26 @@ SEPARATORS = (";", "\t", ",", " ")
 CELLS = {sign: re.compile(rf' *(?:"((?:[^"]|"")*)" *|([^"{sign}]*))({sign}|$)') for sign in ";\t,"}
 TITLE = re.compile(r"([A-Za-z]+) *(?:\[ *(.+?) *\]|\( *(.+?) *\))?")
 LAYERS = re.compile(r"layers?(?: *[0-9]+)?|d/A", re.IGNORECASE)
+LINKS = re.compile(r"(?:(?:shear|vertical) )?(?:links?|stirrups?)|A(?:sw)?/s", re.IGNORECASE)
+ABOUT_LINKS = re.compile(r"\b(?:links?|stirrups?|Asw)(?![A-Za-z])", re.IGNORECASE)
+NAMED = "links="  # links among the layers
 BY_NAME = {column.name.lower(): column for column in COLUMNS}
 ENOUGH_TITLES = 3  # a line that names as many columns is one of titles; two could be units that stand alone
 
 
 class Place(NamedTuple):
-    """What the cells of one column hold: a number of the record, layers, or the name of the line."""
+    """What the cells of one column hold: a number of the record, layers, links, or the name of the line."""
 
     title: str
     column: Optional[Column] = None
     unit: str = ""
     layers: bool = False
+    links: bool = False
 
     @property
     def is_name(self):
         """Cells here are no part of the record."""
-        return not (self.column or self.layers)
+        return not (self.column or self.layers or self.links)
 
 
 class Titles(NamedTuple):
@@ -113,7 +129,14 @@ def column_named(title):
 
 
 def place_of(title, left):
-    """What a title stands for; one without a title, or '...', goes on with the layers to its left."""
+    """What a title stands for; one without a title, or '...', goes on with the layers to its left.
+
+    A title that speaks of links and is none of theirs is not taken as a name: its cells would be lost.
+    """
+    if LINKS.fullmatch(title):
+        return Place("links", links=True)
+    if ABOUT_LINKS.search(title):
+        raise Complaint(f"'{shown(title)}' is no title of links; expected 'links', with cells area/spacing such as 101/200 or 2x8/200")
     known = column_named(title)
     if not known:
         goes_on = not title.strip(".") and left.layers
@@ -151,6 +174,16 @@ def demand_titles(titles):
                         "expected the layers last, where blanks part the cells")
 
 
+def demand_one_of_links(titles):
+    """Links have one title at most, and none where a line without them would give its first layer in their place."""
+    found = [number for number, place in enumerate(titles.places, 1) if place.links]
+    if len(found) > 1:
+        raise Complaint(f"column {found[1]}: {len(found)} titles 'links'; expected one at most")
+    if found and titles.separator == " ":
+        raise Complaint(f"column {found[0]}: 'links' is no column where blanks part the cells; expected links among the layers, "
+                        f"as in {NAMED}101/200")
+
+
 def titles_of(text):
     """The titles, if the line is one of titles."""
     for separator in SEPARATORS:
@@ -158,6 +191,7 @@ def titles_of(text):
         if sum(column_named(cell) is not None for cell in cells) >= ENOUGH_TITLES:
             titles = Titles(places_of(cells), separator)
             demand_titles(titles)
+            demand_one_of_links(titles)
             return titles
     return None
 
@@ -185,12 +219,32 @@ class Reader:
                               f"a number may have its unit, as in {cell}{list(quantity.units)[1]}")
         return number
 
+    def take_links(self, section, word, where):
+        """The links, once; a note where a diameter was likely meant."""
+        if section.links:
+            raise Complaint(f"'{shown(word)}' are links again; expected them once in a line")
+        word = word[len(NAMED):] if word.lower().startswith(NAMED) else word
+        area, spacing = units.link_of(word, U32)
+        if not self.notes and units.is_diameter(word, area):
+            self.notes.append(f"{where}: {area} is taken as {area} mm² of links; two legs of {area} mm are {NAMED}2x{area}/{spacing}")
+        section.links.append((area, spacing))
+
+    def take_layers(self, section, cell, where):
+        """Layers, and links by their name."""
+        for word in filter(None, cell.split(" ")):
+            if word.lower().startswith(NAMED):
+                self.take_links(section, word, where)
+            else:
+                section.layers.append(units.layer_of(word, U32))
+        if len(section.layers) > len(LAYER_BITS):
+            raise Complaint(f"layer {len(section.layers)}; expected at most {len(LAYER_BITS)} in a record")
+
     def take(self, section, cell, place, where):
         """Put the cell where it belongs."""
         if place.layers:
-            section.layers.extend(units.layer_of(word, U32) for word in cell.split(" ") if word)
-            if len(section.layers) > len(LAYER_BITS):
-                raise Complaint(f"layer {len(section.layers)}; expected at most {len(LAYER_BITS)} in a record")
+            self.take_layers(section, cell, where)
+        elif place.links:
+            self.take_links(section, cell, where)
         elif place.column:
             section.numbers[place.column.name] = self.number(cell, place, where)
         elif not place.title:
@@ -211,7 +265,7 @@ class Reader:
 
     def section(self, line, cells, separator):
         """The section of a line; a complaint names the column and what is wrong there."""
-        section = Section({}, [])
+        section = Section({}, [], [])
         for number, cell in enumerate(cells, 1):
             place = self.titles.place(number)
             where = f"{line}, column {number} ({shown(place.title)})"
@@ -271,7 +325,8 @@ def line_of(section):
     """The line of text that make-record turns back into such a record."""
     numbers = [section.numbers.get(column.name, column.missing) for column in COLUMNS]
     columns = [(ABSENT if number is None else str(number)).rjust(column.width) for number, column in zip(numbers, COLUMNS)]
-    return "  ".join(columns + [f"{depth}/{area}" for depth, area in section.layers])
+    links = [f"{NAMED}{area}/{spacing}" for area, spacing in section.links]
+    return "  ".join(columns + links + [f"{depth}/{area}" for depth, area in section.layers])
 
 
 def title_line():

@@ -33,6 +33,7 @@ MOMENT = Quantity("N·mm", {"Nmm": 1, "kNm": 1_000_000, "MNm": 1_000_000_000}, d
 NUMBER = re.compile(r"([+-]?[0-9]+(?:_[0-9]+)*)(\.[0-9]+)? *([A-Za-z].*)?", re.ASCII)
 BARS = re.compile(r"([0-9]{1,5})x([0-9]{1,5})", re.ASCII)
 LONGEST = 60  # characters of a word; no number that fits a record needs as many
+LEAST_LEGS = 25  # mm²: two legs of 4 mm, and no link has less
 PI = 3_14159_26535_89793_23846_26433_83279_50288_41971, 10**40
 UNITS = {unit for quantity in (LENGTH, AREA, FORCE, MOMENT) for unit in quantity.units}
 
@@ -100,12 +101,33 @@ def area_of(word, bounds):
     return area
 
 
+def length_of(word, bounds):
+    """A length."""
+    return whole(word, LENGTH, bounds)
+
+
+def pair_of(word, bounds, what, expected, *readings):
+    """The two numbers of a word with a '/' between them, each by its own reading."""
+    parts = word.split("/")
+    if len(parts) != len(readings):
+        raise Complaint(f"'{shown(word)}' is no {what}; expected {expected}")
+    try:
+        return tuple(read(part.strip(" "), bounds) for read, part in zip(readings, parts))
+    except Complaint as complaint:
+        raise Complaint(f"of the {what} '{shown(word)}', {complaint}") from None
+
+
 def layer_of(word, bounds):
     """Depth and area of the word d/A."""
-    parts = word.split("/")
-    if len(parts) != 2:
-        raise Complaint(f"'{shown(word)}' is no layer; expected depth/area such as 450/1500, or depth/bars such as 450/3x16")
-    try:
-        return whole(parts[0], LENGTH, bounds), area_of(parts[1], bounds)
-    except Complaint as complaint:
-        raise Complaint(f"of the layer '{shown(word)}', {complaint}") from None
+    return pair_of(word, bounds, "layer", "depth/area such as 450/1500, depth/bars such as 450/3x16, or links by their name, links=101/200",
+                   length_of, area_of)
+
+
+def link_of(word, bounds):
+    """Area and spacing of the word A/s."""
+    return pair_of(word, bounds, "link", "area/spacing such as 101/200, or bars/spacing such as 2x8/200", area_of, length_of)
+
+
+def is_diameter(word, area):
+    """A plain area of links that is next to nothing, as in 8/200, where bars were likely meant."""
+    return word.partition("/")[0].strip(" ").isdigit() and 0 < area < LEAST_LEGS

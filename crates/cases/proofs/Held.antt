@@ -2,8 +2,8 @@
 use mathlib.Core.Path.{_≡_}
 use lib.Dec.{T}
 use Rattle.arith.specs.Every.{every}
-use Rattle.arith.specs.Fraction.{whole, integer, ratio, _+ᶠ_, _-ᶠ_, _*ᶠ_, _/ᶠ_, _÷ᶠ_, atMost, isSame, held, floor, roundedDown}
-use Rattle.arith.specs.Greatest.{greatest}
+use Rattle.arith.specs.Fraction.{whole, integer, ratio, _+ᶠ_, _-ᶠ_, _*ᶠ_, _/ᶠ_, _÷ᶠ_, _+ʳ_, reciprocal, atMost, isSame, held, floor, roundedDown}
+use Rattle.arith.specs.Greatest.{greatest, firstGreatest}
 use Rattle.materials.specs.Strength.{depthFactor, strengthFactor, L, f, g, s}
 use Rattle.materials.specs.Situation.{persistent}
 use Rattle.materials.specs.Answer.{materialsIn, materialsOf, opened}
@@ -16,6 +16,8 @@ use Rattle.equilibrium.specs.Depth.{depthIn}
 use Rattle.equilibrium.specs.Moment.{momentIn}
 use Rattle.shear.specs.SizeFactor.{K}
 use Rattle.shear.specs.Shear.{r, q, v, c, concreteShare, axialShare, VRdc}
+use Rattle.links.specs.Links.{linkResistance, strutResistance, strutCotangent, spacingOk, ratioOk}
+use Rattle.clauses.specs.Linked.{linkedReport}
 use Rattle.clauses.specs.Tension.{tensionLayers, total, meanDepth}
 use Rattle.clauses.specs.Check.{reportOf, reportAt, checkIn}
 use Rattle.cases.specs.Case.{shearIs, sameListed, holds, checkHolds}
@@ -30,11 +32,12 @@ both-hold : T (every holds cases) × T (every shows checkRows)
 unfolding cases checkRows sectionTests accepted depthIn momentIn checkIn
 both-hold = rw everywhere (
     unfold shearIs sameListed isDepth reports
-    whole integer ratio _+ᶠ_ _-ᶠ_ _*ᶠ_ _/ᶠ_ _÷ᶠ_ atMost isSame held floor roundedDown greatest
+    whole integer ratio _+ᶠ_ _-ᶠ_ _*ᶠ_ _/ᶠ_ _÷ᶠ_ _+ʳ_ reciprocal atMost isSame held floor roundedDown greatest firstGreatest
     depthFactor strengthFactor L f g s
     at concreteForce stress layerForce steelForce internalForce concreteMoment layerMoment steelResistance momentResistance
     turned carries reaches
-    tensionLayers total meanDepth K r q v c concreteShare axialShare VRdc reportOf reportAt
+    tensionLayers total meanDepth K r q v c concreteShare axialShare VRdc
+    linkResistance strutResistance strutCotangent spacingOk ratioOk linkedReport reportOf reportAt
     in (tt, tt))
 
 pub cases-hold : T (every holds cases)

@@ -18,8 +18,8 @@ use Rattle.section.specs.declared.Load.{Load}
 use Rattle.section.specs.declared.Design.{Design}
 use Rattle.section.specs.declared.Accepted.{Accepted}
 use Rattle.section.specs.declared.Accepted.the-variants.{Ready, Refused}
-use Rattle.section.specs.Section.{layersOf, counted}
-use Rattle.section.specs.Refusals.{accepted, loadTests}
+use Rattle.section.specs.Section.{layersOf, counted, linksOf}
+use Rattle.section.specs.Refusals.{accepted, loadLinkTests}
 use Rattle.section.specs.Turned.{turned}
 use Rattle.equilibrium.specs.Refusals.{carries}
 use Rattle.equilibrium.specs.Depth.{depthUnder}
@@ -66,26 +66,26 @@ module _ (s : Section) (load : Load) (l : Listed) where
 
   unfoldable pub reports : Accepted → Bool
   reports (Ready x) =
-      eqb (firstFailing (loadTests load)) 0 && (eqb (firstFailing (facesTests x (layersOf s) (below x) load)) 0
+      eqb (firstFailing (loadLinkTests (linksOf s) load)) 0 && (eqb (firstFailing (facesTests x (layersOf s) (below x) load)) 0
       && (isDepth x (layersOf s) (load .n) top && (isDepth x (below x) (load .n) bottom
-      && sameListed (listed (Done (reportAt x load (layersOf s) (below x) top bottom))) l)))
+      && sameListed (listed (Done (reportAt x (linksOf s) load (layersOf s) (below x) top bottom))) l)))
   reports (Refused k) = false
 
   at-depths : (x : Design) → firstFailing (facesTests x (layersOf s) (below x) load) ≡ 0 → depthUnder (layersOf s) (load .n) x ≡ top
       → depthUnder (below x) (load .n) x ≡ bottom
-      → checkFaces x (layersOf s) (below x) load ≡ Done (reportAt x load (layersOf s) (below x) top bottom)
+      → checkFaces x (layersOf s) (below x) (linksOf s) load ≡ Done (reportAt x (linksOf s) load (layersOf s) (below x) top bottom)
   unfolding checkFaces
-  at-depths x none t b = rw none (λ i. Done (reportAt x load (layersOf s) (below x) (t i) (b i)))
+  at-depths x none t b = rw none (λ i. Done (reportAt x (linksOf s) load (layersOf s) (below x) (t i) (b i)))
 
   reports-sound : (a : Accepted) → accepted (counted s) ≡ a → reports a ≡ true → sameListed (listed (checkOf s load)) l ≡ true
   unfolding reports
   reports-sound (Refused k) e h = absurd (holds h)
   reports-sound (Ready x) e h =
-      let loaded = both-true (eqb (firstFailing (loadTests load)) 0) _ h in
+      let loaded = both-true (eqb (firstFailing (loadLinkTests (linksOf s) load)) 0) _ h in
       let faces = both-true (eqb (firstFailing (facesTests x (layersOf s) (below x) load)) 0) _ (loaded .1) in
       let t = both-true (isDepth x (layersOf s) (load .n) top) _ (faces .1) in
       let b = both-true (isDepth x (below x) (load .n) bottom) _ (t .1) in
-      let is : checkOf s load ≡ Done (reportAt x load (layersOf s) (below x) top bottom) =
+      let is : checkOf s load ≡ Done (reportAt x (linksOf s) load (layersOf s) (below x) top bottom) =
       sym (load-passed s load e (eqb-true _ 0 (loaded .0)))
       ∙ at-depths x (eqb-true _ 0 (faces .0)) (depth-is x (layersOf s) (load .n) top (t .0)) (depth-is x (below x) (load .n) bottom (b .0)) in
       ap (λ r. sameListed (listed r) l) is ∙ b .1

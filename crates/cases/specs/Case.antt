@@ -5,6 +5,7 @@ use mathlib.Core.List.{List, [], _∷_}
 use lib.Dec.{eqb}
 use lib.IntN.{ℤ}
 use lib.Signed.{leZ}
+use Rattle.arith.specs.Chain.{firstFailing}
 use Rattle.arith.specs.Fraction.{integer, isSame}
 use Rattle.materials.specs.declared.Answer.{Answer}
 use Rattle.materials.specs.declared.Answer.the-variants as materials
@@ -16,7 +17,7 @@ use Rattle.section.specs.declared.Section.{Section}
 use Rattle.section.specs.declared.Load.{Load}
 use Rattle.section.specs.declared.Accepted.{Accepted}
 use Rattle.section.specs.declared.Accepted.the-variants as section
-use Rattle.section.specs.Section.{layersOf, counted}
+use Rattle.section.specs.Section.{layersOf, counted, linksOf}
 use Rattle.section.specs.Refusals as sections
 use Rattle.equilibrium.specs.Force.{at, internalForce, steelResistance}
 use Rattle.section.specs.Turned.{turned}
@@ -24,6 +25,8 @@ use Rattle.equilibrium.specs.Depth as depth
 use Rattle.equilibrium.specs.Moment as moment
 use Rattle.shear.specs.SizeFactor.{K}
 use Rattle.shear.specs.Shear.{r, q}
+use Rattle.links.specs.declared.Truss.{Truss}
+use Rattle.links.specs.Links.{linkResistance, strutResistance}
 use Rattle.clauses.specs.Tension.{As, dm}
 use Rattle.clauses.specs.declared.Listed.{Listed}
 use Rattle.clauses.specs.Check.{listed, checkOf}
@@ -49,6 +52,10 @@ pub data Case : Type 0 where
   sizeFactor : ℕ → ℕ → Case
   -- a section and N; then K, r and q of the tension layers at the depth that is found
   shearNumbers : Section → ℤ → ℕ → ℕ → ℕ → Case
+  -- a section with links and a load; then the refusal of the load's tests and the links', 0 for none
+  linkTested : Section → Load → ℕ → Case
+  -- what 6.2.3 asks of a section and a cotangent in tenths; then the resistance of the links and that of the strut
+  struts : Truss → ℕ → ℕ → ℕ → Case
 
 abbrev sameℤ : ℤ → ℤ → Bool
 sameℤ a b = leZ a b && leZ b a
@@ -94,7 +101,8 @@ shearIs ls (section.Refused j) u k y z = false
 unfoldable pub sameListed : Listed → Listed → Bool
 sameListed a b =
     eqb (a .refusal) (b .refusal) && eqb (a .u) (b .u) && sameℤ (a .mrd) (b .mrd) && eqb (a .other .u) (b .other .u) && sameℤ (a .other .mrd) (b .other .mrd)
-    && eqb (a .vrd) (b .vrd) && eqb (a .dm) (b .dm) && eqb (a .area) (b .area) && sameNumbers (a .verdicts) (b .verdicts)
+    && eqb (a .vrd) (b .vrd) && eqb (a .dm) (b .dm) && eqb (a .area) (b .area) && eqb (a .cotangent) (b .cotangent) && eqb (a .truss) (b .truss)
+    && sameNumbers (a .verdicts) (b .verdicts)
 
 abbrev pub holds : Case → Bool
 holds (material grade m) = isMaterial (materialsOf grade) m
@@ -106,6 +114,8 @@ holds (found s N k u) = eqb (depth.refusalNumber (depth.findDepth s N)) k && eqb
 holds (resists s u k m) = eqb (moment.refusalNumber (moment.momentAt s u)) k && sameℤ (moment.momentFound (moment.momentAt s u)) m
 holds (turnedSteel s u z) = turnedGives (layersOf s) (sections.accepted (counted s)) u z
 holds (sizeFactor d k) = eqb (K d) k
+holds (linkTested s l k) = eqb (firstFailing (sections.loadLinkTests (linksOf s) l)) k
+holds (struts x c k z) = eqb (linkResistance x c) k && eqb (strutResistance x c) z
 holds (shearNumbers s N k y z) = shearIs (layersOf s) (sections.accepted (counted s)) (depth.depthFound (depth.findDepth s N)) k y z
 
 -- a row of Check: a section and a load; then what is listed

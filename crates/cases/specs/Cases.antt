@@ -1,21 +1,23 @@
 -- Worked cases; that they hold, one computed test over the definitions, is `cases-hold` and `checks-hold` of the proofs. Every case of
 -- document 01 that is marked (P) has its rows here, in 01's order, those of Check in a list of their own. Beside them stand the example of
 -- 01's list, the refusals 11 and 12 also as Check gives them, every class of the table with the letters that follow from it, and both
--- ends of the steel's range with what lies beyond; at the end, the cases of 02's request 1, with numbers of the paper or of the second
--- implementation. Assumes nothing.
+-- ends of the steel's range with what lies beyond; at the end, the cases of 02's requests 1 and 3, with numbers of the paper or of the
+-- second implementation. Assumes nothing.
 use Prim.Native.Nat.{ℕ}
 use mathlib.Core.List.{List, [], _∷_}
 use lib.IntN.{ℤ, pos, negℤ}
 use lib.ListN.{replicate}
 use Rattle.materials.specs.declared.Grade.{Grade}
+use Rattle.section.specs.declared.Links.{Links}
 use Rattle.section.specs.declared.Section.{Section}
 use Rattle.section.specs.declared.Load.{Load}
-use Rattle.section.specs.Section.{noLayer}
+use Rattle.section.specs.Section.{noLayer, noLinks, linksWith}
+use Rattle.links.specs.declared.Truss.{Truss}
 use Rattle.clauses.specs.declared.Face.{Face}
 use Rattle.clauses.specs.declared.Listed.{Listed}
 use Rattle.clauses.specs.Check.{refusedListed}
 use Rattle.cases.specs.Case.{Case, Case.material, Case.noMaterial, Case.tests, Case.force, Case.turnedForce, Case.found, Case.resists, Case.turnedSteel}
-use Rattle.cases.specs.Case.{Case.sizeFactor, Case.shearNumbers, CheckRow}
+use Rattle.cases.specs.Case.{Case.sizeFactor, Case.shearNumbers, Case.linkTested, Case.struts, CheckRow}
 
 -- fck and fyk
 abbrev grade : ℕ → ℕ → Grade
@@ -28,7 +30,14 @@ letters fck fyk t e l f g s = material (grade fck fyk) record { fck = fck; fyk =
 -- a section with one layer of 1,500 mm², C30 and fyk 500 unless said otherwise
 abbrev one : ℕ → ℕ → ℕ → ℕ → Section
 one b h fck d =
-    record { width = pos b; height = pos h; grade = grade fck 500; count = 1; layers = record { depth = d; area = 1500 } ∷ replicate 15 noLayer }
+    record {
+      width = pos b;
+      height = pos h;
+      grade = grade fck 500;
+      links = noLinks;
+      count = 1;
+      layers = record { depth = d; area = 1500 } ∷ replicate 15 noLayer;
+    }
 
 -- section A: 300 by 500, fck 30, fyk 500, one layer of 1,500 at 450
 abbrev A : Section
@@ -39,23 +48,72 @@ load n m v = record { n = n; m = m; v = v }
 
 -- 50 by 50, fck 25, fyk 400, one layer of 1,500 at 1
 abbrev B : Section
-B = record { width = pos 50; height = pos 50; grade = grade 25 400; count = 1; layers = record { depth = 1; area = 1500 } ∷ replicate 15 noLayer }
+B =
+    record {
+      width = pos 50;
+      height = pos 50;
+      grade = grade 25 400;
+      links = noLinks;
+      count = 1;
+      layers = record { depth = 1; area = 1500 } ∷ replicate 15 noLayer;
+    }
+
+-- a section with links
+abbrev with : Links → Section → Section
+with k s = record { width = s .width; height = s .height; grade = s .grade; links = k; count = s .count; layers = s .layers }
 
 -- u and MRd of a face
 abbrev face : ℕ → ℤ → Face
 face u mrd = record { u = u; mrd = mrd }
 
--- the face that M compresses, the other, VRd,c, dm, As and the five verdicts of a call that is not refused
+-- the face that M compresses, the other, VRd,c, dm, As, the links' cotangent and resistance and the verdicts of a call that is not refused
+abbrev linkedLine : Face → Face → ℕ → ℕ → ℕ → ℕ → ℕ → List ℕ → Listed
+linkedLine f o vrd dm area cotangent truss verdicts =
+    record {
+      refusal = 0;
+      u = f .u;
+      mrd = f .mrd;
+      other = o;
+      vrd = vrd;
+      dm = dm;
+      area = area;
+      cotangent = cotangent;
+      truss = truss;
+      verdicts = verdicts;
+    }
+
+-- without links, so that verdict six is 2
 abbrev line : Face → Face → ℕ → ℕ → ℕ → ℕ → ℕ → ℕ → ℕ → ℕ → Listed
-line f o vrd dm area v1 v2 v3 v4 v5 =
-    record { refusal = 0; u = f .u; mrd = f .mrd; other = o; vrd = vrd; dm = dm; area = area; verdicts = v1 ∷ v2 ∷ v3 ∷ v4 ∷ v5 ∷ [] }
+line f o vrd dm area v1 v2 v3 v4 v5 = linkedLine f o vrd dm area 0 0 (v1 ∷ v2 ∷ v3 ∷ v4 ∷ v5 ∷ 2 ∷ [])
+
+-- A with links under M 200,000,000: the cotangent, the resistance and verdicts three and six
+abbrev strutLine : ℕ → ℕ → ℕ → ℕ → Listed
+strutLine cotangent truss v3 v6 =
+    linkedLine (face 1358 (pos 257986051)) (face 419 (pos 6312569)) 86851 450 1500 cotangent truss (0 ∷ 0 ∷ v3 ∷ 0 ∷ 0 ∷ v6 ∷ [])
+
+-- the same under M −1, where the bottom is compressed
+abbrev below : ℕ → ℕ → ℕ → Listed
+below cotangent truss v6 =
+    linkedLine (face 419 (pos 6312569)) (face 1358 (pos 257986051)) 14090 50 1500 cotangent truss (0 ∷ 1 ∷ 0 ∷ 0 ∷ 0 ∷ v6 ∷ [])
+
+abbrev checks : Section → Load → Listed → CheckRow
+checks s l lists = record { section = s; load = l; lists = lists }
+
+-- A's links under V
+abbrev sheared : ℕ → ℕ → ℤ → Listed → CheckRow
+sheared area spacing v lists = checks (with (linksWith area spacing) A) (load (pos 0) (pos 200000000) v) lists
+
+-- what 6.2.3 asks of the tie: b 200, fck 35, fyk 500, dm 250, links 312 at 365
+abbrev tie : Truss
+tie = record { b = 200; fck = 35; fyk = 500; g = 2333; s = 43478; dm = 250; area = 312; spacing = 365 }
+
+-- the tests of A's links under N
+abbrev asked : ℕ → ℕ → ℤ → ℕ → Case
+asked area spacing n k = linkTested (with (linksWith area spacing) A) (load n (pos 0) (pos 0)) k
 
 -- A under N −651,690 with M of at least 0: what is listed, by verdict one
 abbrev hanger : ℕ → Listed
 hanger v1 = line (face 1 (pos 130553980)) (face 1 (negℤ (pos 130314020))) 0 450 1500 v1 0 0 0 0
-
-abbrev checks : Section → Load → Listed → CheckRow
-checks s l lists = record { section = s; load = l; lists = lists }
 
 unfoldable pub cases : List Case
 cases =
@@ -114,6 +172,26 @@ cases =
     -- request 1: what either face of A reaches
     ∷ force A 5000 (pos 2505000)
     ∷ turnedForce A 5000 (pos 3052170)
+    -- request 3: the tie, at 23 and at 24
+    ∷ struts tie 23 192327 198086
+    ∷ struts tie 24 200689 192327
+    -- request 3: both ends of 27, 28 and 29, and their sequence
+    ∷ asked 0 200 (pos 0) 27
+    ∷ asked 1 200 (pos 0) 0
+    ∷ asked 5000 200 (pos 0) 0
+    ∷ asked 5001 200 (pos 0) 27
+    ∷ asked 101 24 (pos 0) 28
+    ∷ asked 101 25 (pos 0) 0
+    ∷ asked 101 1000 (pos 0) 0
+    ∷ asked 101 1001 (pos 0) 28
+    ∷ asked 101 200 (negℤ (pos 1)) 29
+    ∷ asked 101 200 (pos 1) 29
+    ∷ asked 0 24 (pos 1) 27
+    ∷ asked 101 24 (pos 1) 28
+    ∷ asked 0 200 (pos 500000001) 8
+    ∷ linkTested (with (linksWith 0 200) A) (load (pos 0) (pos 0) (pos 500000001)) 10
+    -- request 3: absent links are not asked, whatever their numbers
+    ∷ linkTested (with (record { present = 0; area = 0; spacing = 7 }) A) (load (pos 1) (pos 0) (pos 0)) 0
     ∷ []
 
 -- the rows of Check
@@ -141,4 +219,32 @@ checkRows =
     ∷ checks B (load (pos 0) (pos 0) (pos 0)) (line (face 9 (negℤ (pos 2785222))) (face 475 (pos 985713)) 44 1 1500 1 1 0 0 1)
     ∷ checks B (load (pos 0) (negℤ (pos 985713)) (pos 0)) (line (face 475 (pos 985713)) (face 9 (negℤ (pos 2785222))) 2166 49 1500 1 1 0 0 1)
     ∷ checks B (load (pos 0) (negℤ (pos 2785222)) (pos 0)) (line (face 475 (pos 985713)) (face 9 (negℤ (pos 2785222))) 2166 49 1500 1 1 0 0 1)
+    -- request 3: the cotangents of A, and V at the resistance and one newton beyond
+    ∷ sheared 101 200 (pos 222308) (strutLine 25 222308 1 0)
+    ∷ sheared 101 200 (pos 222309) (strutLine 25 222308 1 1)
+    ∷ sheared 500 50 (negℤ (pos 641520)) (strutLine 10 641520 1 0)
+    ∷ sheared 500 50 (negℤ (pos 641521)) (strutLine 10 641520 1 1)
+    ∷ sheared 200 100 (pos 563474) (strutLine 16 563474 1 0)
+    -- request 3: the least area at spacing 200, and the greatest spacing
+    ∷ sheared 53 200 (pos 80000) (strutLine 25 116656 0 0)
+    ∷ sheared 52 200 (pos 80000) (strutLine 25 114455 0 1)
+    ∷ sheared 101 337 (pos 80000) (strutLine 25 131933 0 0)
+    ∷ sheared 101 338 (pos 80000) (strutLine 25 131543 0 1)
+    -- request 3: the bottom compressed, where dm is 50
+    ∷ checks (with (linksWith 101 37) A) (load (pos 0) (negℤ (pos 1)) (pos 0)) (below 13 68895 0)
+    -- request 3: the smallest cotangent on a tie
+    ∷ checks (with (linksWith 312 365) (one 200 300 35 250)) (load (pos 0) (pos 0) (pos 0))
+    (linkedLine (face 1595 (pos 110898695)) (face 433 (pos 5197986)) 46831 250 1500 23 192327 (0 ∷ 1 ∷ 0 ∷ 0 ∷ 0 ∷ 1 ∷ []))
+    -- request 3: above fck 50, where f is below g
+    ∷ checks (with (linksWith 600 100) (one 300 500 90 450)) (load (pos 0) (pos 200000000) (pos 1352850))
+    (linkedLine (face 646 (pos 278503091)) (face 345 (pos 12653841)) 125256 450 1500 13 1352850 (0 ∷ 0 ∷ 1 ∷ 0 ∷ 0 ∷ 0 ∷ []))
+    -- request 3: any number but 0 is present; absent links have no numbers
+    ∷ checks (with (record { present = 7; area = 101; spacing = 200 }) A) (load (pos 0) (pos 200000000) (pos 222308)) (strutLine 25 222308 1 0)
+    ∷ checks (with (record { present = 0; area = 101; spacing = 200 }) A) (load (pos 0) (pos 200000000) (pos 80000)) (strutLine 0 0 0 2)
+    -- request 3: 27, 28 and 29, and 29 before 11 and 12
+    ∷ sheared 0 200 (pos 0) (refusedListed 27)
+    ∷ sheared 101 24 (pos 0) (refusedListed 28)
+    ∷ checks (with (linksWith 101 200) A) (load (pos 1) (pos 0) (pos 0)) (refusedListed 29)
+    ∷ checks (with (linksWith 101 200) A) (load (negℤ (pos 651691)) (pos 0) (pos 0)) (refusedListed 29)
+    ∷ checks (with (linksWith 101 200) A) (load (pos 2505001) (pos 0) (pos 0)) (refusedListed 29)
     ∷ []

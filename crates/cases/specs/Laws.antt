@@ -2,17 +2,18 @@
 -- fails here. Assumes nothing.
 use Prim.Native.Nat.{ℕ, _+_, _*_, _^_, _≤_, _<_}
 use mathlib.Core.List.{List, [], _++_}
-use mathlib.Core.Path.{_≡_}
+use mathlib.Core.Path.{_≡_, refl}
 use lib.IntN.{ℤ, negℤ}
 use lib.Signed.{_<ℤ_}
 use lib.ListN.{length}
 use Rattle.arith.specs.Greatest.{IsGreatest}
 use Rattle.section.specs.declared.Layer.{Layer}
+use Rattle.section.specs.declared.Links.{Links}
 use Rattle.section.specs.declared.Section.{Section}
 use Rattle.section.specs.declared.Load.{Load}
 use Rattle.section.specs.declared.Design.{Design}
 use Rattle.section.specs.declared.Accepted.the-variants.{Ready}
-use Rattle.section.specs.Section.{layersOf, Counted, counted}
+use Rattle.section.specs.Section.{layersOf, Counted, counted, noLinks, countedLinks, linksOf}
 use Rattle.section.specs.Code.Usable.{Usable}
 use Rattle.section.specs.Refusals.{accepted}
 use Rattle.equilibrium.specs.Refusals.{carries}
@@ -38,7 +39,8 @@ use Rattle.listing.specs.Records.{GoesOn, listOf}
 use Rattle.listing.specs.Program.{firstLine, tooLong, printedOf}
 use Rattle.listing.proofs.Laws as listing
 
--- ---- "Sections that differ only there count as the same": places beyond the counted layers
+-- ---- "Sections that differ only there count as the same": places beyond the counted layers; and numbers of absent links, for Check and
+-- for records
 
 pub beyond-find : (s t : Section) (N : ℤ) → counted s ≡ counted t → findDepth s N ≡ findDepth t N
 beyond-find = equilibrium.beyond-find
@@ -46,14 +48,30 @@ beyond-find = equilibrium.beyond-find
 pub beyond-moment : (s t : Section) (u : ℕ) → counted s ≡ counted t → momentAt s u ≡ momentAt t u
 beyond-moment = equilibrium.beyond-moment
 
-pub beyond-check : (s t : Section) (load : Load) → counted s ≡ counted t → checkOf s load ≡ checkOf t load
+pub beyond-check : (s t : Section) (load : Load) → counted s ≡ counted t → linksOf s ≡ linksOf t → checkOf s load ≡ checkOf t load
 beyond-check = clauses.beyond-check
 
-pub beyond-written : (s t : Section) (load : Load) (buf : List ℕ) → counted s ≡ counted t → writtenOf (counted s) load buf ≡ writtenOf (counted t) load buf
+pub beyond-written : (s t : Section) (load : Load) (buf : List ℕ) → counted s ≡ counted t → linksOf s ≡ linksOf t
+    → writtenOf (counted s) (linksOf s) load buf ≡ writtenOf (counted t) (linksOf t) load buf
 beyond-written = records.beyond-written
 
-pub beyond-bytes : (s t : Section) (load : Load) (buf : List ℕ) → counted s ≡ counted t → bufferOf (counted s) load buf ≡ bufferOf (counted t) load buf
+pub beyond-bytes : (s t : Section) (load : Load) (buf : List ℕ) → counted s ≡ counted t → linksOf s ≡ linksOf t
+    → bufferOf (counted s) (linksOf s) load buf ≡ bufferOf (counted t) (linksOf t) load buf
 beyond-bytes = records.beyond-bytes
+
+-- absent links count as none, whatever their numbers
+pub absent-links : (k : Links) → k .present ≡ 0 → countedLinks k ≡ noLinks
+absent-links k e = rw e
+
+-- Find a depth and Moment at a depth ignore links
+abbrev withLinks : Links → Section → Section
+withLinks k s = record { layers = s .layers; width = s .width; height = s .height; grade = s .grade; links = k; count = s .count }
+
+pub find-ignores-links : (s : Section) (k : Links) (N : ℤ) → findDepth (withLinks k s) N ≡ findDepth s N
+find-ignores-links s k N = refl
+
+pub moment-ignores-links : (s : Section) (k : Links) (u : ℕ) → momentAt (withLinks k s) u ≡ momentAt s u
+moment-ignores-links s k u = refl
 
 -- ---- of the layers of an accepted section, for either face
 
@@ -85,7 +103,7 @@ no-tension = clauses.no-tension
 -- ---- records and their list
 
 -- "The length is 4 plus 8 times the number of bits that stand": that of the bytes
-pub record-length : (c : Counted) (load : Load) → length (recordOf c load) ≡ recordLength (mapOf c load)
+pub record-length : (c : Counted) (links : Links) (load : Load) → length (recordOf c links load) ≡ recordLength (mapOf c links load)
 record-length = records.record-length
 
 -- what is read of an input that is not empty, and then, unless the list ends, the readings of what follows the record

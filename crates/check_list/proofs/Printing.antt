@@ -44,7 +44,7 @@ abbrev pub Both : List ℕ → List ℕ → List ℕ → ℕ → List ℕ → Wr
 Both xs ys zs at t r = Put xs 0 (firstLine ++ t) (putMid at (length ys - at) ys zs) (at + r .length)
 
 module _ {xs ys zs : List ℕ} {at : ℕ} (room : ℕ) (t : List ℕ) {r : Written} (first : Put xs 0 firstLine ys at)
-    (same : length ys ≡ length xs) (enough : room + 39 ≤ length xs) (answer : r ≡ textWritten room t (midOf at (length ys - at) ys))
+    (same : length ys ≡ length xs) (enough : room + 42 ≤ length xs) (answer : r ≡ textWritten room t (midOf at (length ys - at) ys))
     (lent : zs ≡ textBuffer room t (midOf at (length ys - at) ys)) where
   is-room : leb room (length (midOf at (length ys - at) ys)) ≡ true
   is-room =

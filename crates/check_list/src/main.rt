@@ -42,11 +42,11 @@ fn read_input(buffer: &mut [u8]) -> Taken
     }
 }
 
-// Room for the first line and the list of 65,536 bytes: 39, and 12 for each and 48. The `ensures` gives only the length.
-fn text_buffer() -> [u8; 786519]
-    ensures { λ r. ⌜ 786519 ≡ length r ⌝ }
+// Room for the first line and the list of 65,536 bytes: 42, and 12 for each and 48. The `ensures` gives only the length.
+fn text_buffer() -> [u8; 786522]
+    ensures { λ r. ⌜ 786522 ≡ length r ⌝ }
 {
-    [0; 786519]
+    [0; 786522]
 }
 
 // Bytes, at the start of a text.
@@ -63,16 +63,16 @@ fn put_bytes(text: &mut [u8], bytes: &[u8]) -> usize
 }
 
 fn put_first_line(text: &mut [u8]) -> usize
-    requires { ⌜ 39 ≤ length (now text) ⌝ }
+    requires { ⌜ 42 ≤ length (now text) ⌝ }
     ensures { λ r. ⌜ Put (now (text .entry)) 0 firstLine (now (text .exit)) r ⌝ }
 {
-    put_bytes(text, b"rec ref u mrd vrd dm as v1 v2 v3 v4 v5\n")
+    put_bytes(text, b"rec ref u mrd vrd dm as v1 v2 v3 v4 v5 v6\n")
 }
 
 // The whole text, for the bytes in hand and whatever follows them: the first line, then the list; or the line of refusal 26, where
 // a byte beyond them was read.
 fn put_text(hand: &[u8], last: isize, text: &mut [u8]) -> usize
-    requires { ⌜ (length (now hand) ≤ 65536) × (Full last (length (now hand)) 65536 × (786519 ≤ length (now text))) ⌝ }
+    requires { ⌜ (length (now hand) ≤ 65536) × (Full last (length (now hand)) 65536 × (786522 ≤ length (now text))) ⌝ }
     ensures within { λ r. ⌜ Counts r (now (text .exit)) ⌝ }
     ensures text { λ r. ⌜ ((rest : List ℕ) → Beyond last rest → Put (now (text .entry)) 0 (printedOf (now (hand .entry) ++ rest)) (now (text .exit)) r) ⌝ }
 {

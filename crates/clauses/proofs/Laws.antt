@@ -15,7 +15,7 @@ use Rattle.section.specs.declared.Layer.{Layer}
 use Rattle.section.specs.declared.Section.{Section}
 use Rattle.section.specs.declared.Load.{Load}
 use Rattle.section.specs.declared.Design.{Design}
-use Rattle.section.specs.Section.{depthOk, counted}
+use Rattle.section.specs.Section.{depthOk, counted, linksOf}
 use Rattle.section.specs.Code.Usable.{Usable}
 use Rattle.section.proofs.OneLayer.{layer-low}
 use Rattle.shear.specs.SizeFactor.{K}
@@ -25,7 +25,7 @@ use Rattle.shear.proofs.Roots.{K-high}
 use Rattle.clauses.specs.Tension.{tensionLayers, areaOf, firstMoment, meanDepth, As, dm}
 use Rattle.clauses.specs.declared.Verdict.the-variants.{Fail}
 use Rattle.clauses.specs.Verdicts.{judged, first}
-use Rattle.clauses.specs.Check.{checkOf}
+use Rattle.clauses.specs.Check.{checkIn, checkOf}
 use Rattle.clauses.proofs.Layers.{total-le, all-tension, mean-is, stress-in}
 use Rattle.clauses.proofs.Layers as layers
 
@@ -64,6 +64,6 @@ none-between M top bottom h = go (leZ M top) (leZ (negℤ bottom) M) refl refl
         let low = le? (⊖ (# bottom)) (# M) (le-true (negℤ bottom) M f) in
         absurd (omega (arith, high, low, lt? (# top) (⊖ (# bottom)) h))
 
--- places beyond the count: sections that differ only there have one answer
-pub beyond-check : (s t : Section) (load : Load) → counted s ≡ counted t → checkOf s load ≡ checkOf t load
-beyond-check s t load e = rw e
+-- places beyond the count, and numbers of absent links: sections that differ only there have one answer
+pub beyond-check : (s t : Section) (load : Load) → counted s ≡ counted t → linksOf s ≡ linksOf t → checkOf s load ≡ checkOf t load
+beyond-check s t load e f = λ i. checkIn (e i) (f i) load

@@ -8,8 +8,6 @@ use Rattle.section.specs.declared.Layer.{Layer}
 use Rattle.section.specs.declared.Section.{Section}
 use Rattle.section.specs.declared.Load.{Load}
 use Rattle.section.specs.declared.Design.{Design}
-use Rattle.section.specs.declared.Accepted.{Accepted}
-use Rattle.section.specs.declared.Accepted.the-variants as section
 use Rattle.section.specs.Section.{counted}
 use Rattle.section.specs.Refusals.{accepted}
 use Rattle.section.specs.Turned.{turned}
@@ -17,8 +15,8 @@ use Rattle.equilibrium.specs.Accuracy.{Accurate}
 use Rattle.clauses.specs.declared.Face.{Face}
 use Rattle.clauses.specs.declared.Report.{Report}
 use Rattle.clauses.specs.declared.Checked.{Checked}
-use Rattle.clauses.specs.declared.Checked.the-variants.{Done, Refused}
 use Rattle.clauses.specs.Verdicts.{numberOf, first}
+use Rattle.clauses.specs.Check.{OfReport}
 
 -- the face that a report shows
 abbrev pub shown : Report → Face
@@ -37,11 +35,6 @@ pub record AccurateFaces (x : Design) (ls : List Layer) (load : Load) (r : Repor
   pub bottom : Accurate x (turned (x .h) ls) (load .n) (bottomOf (load .m) r .u) (bottomOf (load .m) r .mrd)
   pub taken : r .moment ≡ numberOf (first (load .m) (topOf (load .m) r .mrd) (bottomOf (load .m) r .mrd))
 
--- Of Check; and only an accepted section has a report.
-abbrev pub AccurateReport : List Layer → Load → Accepted → Checked → Type 0
-AccurateReport ls load (section.Ready x) (Done r) = AccurateFaces x ls load r
-AccurateReport ls load (section.Refused k) (Done r) = ⊥
-AccurateReport ls load a (Refused k) = Unit {0}
-
+-- of Check
 abbrev pub AccurateCheck : Section → Load → Checked → Type 0
-AccurateCheck s load r = AccurateReport (counted s .layers) load (accepted (counted s)) r
+AccurateCheck s load r = OfReport (λ x. AccurateFaces x (counted s .layers) load) (accepted (counted s)) r

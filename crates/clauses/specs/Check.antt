@@ -1,4 +1,4 @@
--- Check: document 01, "Verdicts", with both faces of 02's ticket 1. Assumes nothing.
+-- Check: document 01, "Verdicts", with both faces of 02's ticket 1 and the links of its ticket 3. Assumes nothing.
 use Prim.Native.Nat.{ℕ}
 use mathlib.Core.List.{List, [], _∷_}
 use lib.IntN.{pos}
@@ -6,10 +6,12 @@ use lib.ListN.{replicate}
 use Rattle.arith.specs.Chain.{firstFailing}
 use Rattle.section.specs.declared.Layer.{Layer}
 use Rattle.section.specs.declared.Section.{Section}
+use Rattle.section.specs.declared.Links.{Links}
 use Rattle.section.specs.declared.Load.{Load}
 use Rattle.section.specs.declared.Design.{Design}
+use Rattle.section.specs.declared.Accepted.{Accepted}
 use Rattle.section.specs.declared.Accepted.the-variants as section
-use Rattle.section.specs.Section.{Counted, counted}
+use Rattle.section.specs.Section.{Counted, counted, linksOf}
 use Rattle.section.specs.Refusals.{accepted, answer}
 use Rattle.section.specs.Turned.{turned}
 use Rattle.equilibrium.specs.Force.{momentResistance}
@@ -19,16 +21,18 @@ use Rattle.clauses.specs.declared.Face.{Face}
 use Rattle.clauses.specs.declared.Listed.{Listed}
 use Rattle.clauses.specs.declared.Report.{Report}
 use Rattle.clauses.specs.declared.Verdict.{Verdict}
+use Rattle.clauses.specs.declared.linked.LinkReport.{LinkReport}
 use Rattle.clauses.specs.declared.Checked.{Checked}
 use Rattle.clauses.specs.declared.Checked.the-variants.{Done, Refused}
 use Rattle.clauses.specs.Tension.{areaOf, As, dm}
 use Rattle.clauses.specs.Compressed.{ofCompressed, ofOther}
 use Rattle.clauses.specs.Refusals.{facesTests, checkTests}
 use Rattle.clauses.specs.Verdicts.{numberOf, first, second, third, fourth, fifth}
+use Rattle.clauses.specs.Linked.{linkedReport}
 
--- u and MRd of the face that M compresses and of the other, VRd,c, dm, As and the five verdicts, with the layers as the compressed face
--- sees them
-module _ (x : Design) (ls : List Layer) (load : Load) (face other : Face) (moment : Verdict) where
+-- u and MRd of the face that M compresses and of the other, VRd,c, dm, As, the links' cotangent and resistance, and the six verdicts, with
+-- the layers as the compressed face sees them
+module _ (x : Design) (ls : List Layer) (k : Links) (load : Load) (face other : Face) (moment : Verdict) where
   abbrev area : ℕ
   area = As (face .u) ls
 
@@ -37,6 +41,9 @@ module _ (x : Design) (ls : List Layer) (load : Load) (face other : Face) (momen
 
   abbrev vrd : ℕ
   vrd = VRdc record { b = x .b; h = x .h; fck = x .m .fck; g = x .m .g; N = load .n; As = area; dm = mean }
+
+  abbrev linked : LinkReport
+  linked = linkedReport x k (load .v) area mean
 
   unfoldable pub reportOf : Report
   reportOf =
@@ -47,11 +54,14 @@ module _ (x : Design) (ls : List Layer) (load : Load) (face other : Face) (momen
         vrd = vrd;
         dm = mean;
         area = area;
+        cotangent = linked .cotangent;
+        truss = linked .resistance;
         moment = numberOf moment;
         depth = numberOf (second (x .m .fck) (face .u) area mean);
         shear = numberOf (third (load .v) vrd area);
         least = numberOf (fourth (x .m .t) (x .m .fyk) (x .b) area mean);
         most = numberOf (fifth (areaOf ls) (x .b) (x .h));
+        links = linked .verdict;
       }
 
 -- a face that sees the layers as ls, at the depth u
@@ -59,33 +69,41 @@ abbrev pub faceAt : Design → List Layer → ℕ → Face
 faceAt x ls u = record { u = u; mrd = momentResistance x ls u }
 
 -- of both faces, which see the layers as `top` and `bottom`, at the depths t and b
-unfoldable pub reportAt : Design → Load → List Layer → List Layer → ℕ → ℕ → Report
-reportAt x load top bottom t b =
+unfoldable pub reportAt : Design → Links → Load → List Layer → List Layer → ℕ → ℕ → Report
+reportAt x k load top bottom t b =
     reportOf x
     (ofCompressed (load .m) top bottom)
+    k
     load
     (ofCompressed (load .m) (faceAt x top t) (faceAt x bottom b))
     (ofOther (load .m) (faceAt x top t) (faceAt x bottom b))
     (first (load .m) (momentResistance x top t) (momentResistance x bottom b))
 
 -- the report, each face at the depth that it has under N
-abbrev pub reported : List Layer → List Layer → Load → Design → Checked
-reported top bottom load x = Done (reportAt x load top bottom (depthUnder top (load .n) x) (depthUnder bottom (load .n) x))
+abbrev pub reported : List Layer → List Layer → Links → Load → Design → Checked
+reported top bottom k load x = Done (reportAt x k load top bottom (depthUnder top (load .n) x) (depthUnder bottom (load .n) x))
 
--- 11, 12 or the report, for both faces of an accepted section under a load in its range
-unfoldable pub checkFaces : Design → List Layer → List Layer → Load → Checked
-checkFaces x top bottom load = answer Refused (reported top bottom load) (firstFailing (facesTests x top bottom load)) (section.Ready x)
+-- 11, 12 or the report, for both faces of an accepted section, whose load and links passed their tests
+unfoldable pub checkFaces : Design → List Layer → List Layer → Links → Load → Checked
+checkFaces x top bottom k load = answer Refused (reported top bottom k load) (firstFailing (facesTests x top bottom load)) (section.Ready x)
 
 -- Check: the top sees the layers as they are, the bottom sees them turned over
-unfoldable pub checkIn : Counted → Load → Checked
-checkIn c load =
-    answer Refused (λ x. reported (c .layers) (turned (x .h) (c .layers)) load x) (firstFailing (checkTests c load)) (accepted c)
+unfoldable pub checkIn : Counted → Links → Load → Checked
+checkIn c k load =
+    answer Refused (λ x. reported (c .layers) (turned (x .h) (c .layers)) k load x) (firstFailing (checkTests c k load)) (accepted c)
 
 abbrev pub checkOf : Section → Load → Checked
-checkOf s load = checkIn (counted s) load
+checkOf s load = checkIn (counted s) (linksOf s) load
 
--- ---- the paper's number and values for each case of the answer: the refusal, 0 for none, u and MRd of both faces, VRd,c, dm, As and the
--- verdicts in 01's sequence; a refusal has zeros and a 2 for each verdict
+-- a statement about what is reported of an accepted section; and only an accepted section has a report
+module _ (P : Design → Report → Type 0) where
+  abbrev pub OfReport : Accepted → Checked → Type 0
+  OfReport (section.Ready x) (Done r) = P x r
+  OfReport (section.Refused j) (Done r) = ⊥
+  OfReport a (Refused j) = Unit {0}
+
+-- ---- the paper's number and values for each case of the answer: the refusal, 0 for none, u and MRd of both faces, VRd,c, dm, As, the links'
+-- cotangent and resistance, and the verdicts in the documents' sequence; a refusal has zeros and a 2 for each verdict
 abbrev pub refusedListed : ℕ → Listed
 refusedListed k =
     record {
@@ -96,7 +114,9 @@ refusedListed k =
       vrd = 0;
       dm = 0;
       area = 0;
-      verdicts = replicate 5 2;
+      cotangent = 0;
+      truss = 0;
+      verdicts = replicate 6 2;
     }
 
 abbrev pub listed : Checked → Listed
@@ -110,7 +130,9 @@ listed (Done r) =
       vrd = r .vrd;
       dm = r .dm;
       area = r .area;
-      verdicts = r .moment ∷ r .depth ∷ r .shear ∷ r .least ∷ r .most ∷ [];
+      cotangent = r .cotangent;
+      truss = r .truss;
+      verdicts = r .moment ∷ r .depth ∷ r .shear ∷ r .least ∷ r .most ∷ r .links ∷ [];
     }
 
 abbrev pub refusalNumber : Checked → ℕ

@@ -3,5 +3,7 @@ pub mod Tension
 pub mod Code
 pub mod Verdicts
 pub mod Refusals
+pub mod Linked
 pub mod Check
 pub mod Accuracy
+pub mod Best

@@ -1,16 +1,17 @@
--- When Check is turned down: document 01, and 02's ticket 1 on 12. Its sequence of tests is a list, in 01's order; the first that fails
--- gives the refusal. The section tests and the load tests stand on the page `Refusals` of the section. Assumes nothing.
+-- When Check is turned down: document 01, and 02's ticket 1 on 12 and its ticket 3 on the links. Its sequence of tests is a list, in 01's order; the first that fails
+-- gives the refusal. The section tests, the load tests and those of the links stand on the page `Refusals` of the section. Assumes nothing.
 use Prim.Native.Nat.{ℕ}
 use mathlib.Core.Bool.{_&&_}
 use mathlib.Core.List.{List, [], _∷_, _++_}
 use Rattle.arith.specs.Chain.{test}
 use Rattle.section.specs.declared.Layer.{Layer}
+use Rattle.section.specs.declared.Links.{Links}
 use Rattle.section.specs.declared.Load.{Load}
 use Rattle.section.specs.declared.Design.{Design}
 use Rattle.section.specs.declared.Accepted.{Accepted}
 use Rattle.section.specs.declared.Accepted.the-variants as section
 use Rattle.section.specs.Section.{Counted}
-use Rattle.section.specs.Refusals.{sectionTests, loadTests, accepted}
+use Rattle.section.specs.Refusals.{sectionTests, loadLinkTests, accepted}
 use Rattle.section.specs.Turned.{turned}
 use Rattle.equilibrium.specs.Refusals.{carries, reaches}
 use Rattle.clauses.specs.Compressed.{ofCompressed}
@@ -29,6 +30,6 @@ abbrev pub facesTestsOf : Accepted → List Layer → Load → List ℕ
 facesTestsOf (section.Ready x) ls load = facesTests x ls (turned (x .h) ls) load
 facesTestsOf (section.Refused k) ls load = []
 
--- Check: the section tests, the load tests, then 11 and 12
-abbrev pub checkTests : Counted → Load → List ℕ
-checkTests c load = sectionTests c ++ (loadTests load ++ facesTestsOf (accepted c) (c .layers) load)
+-- Check: the section tests, the load tests and those of the links, then 11 and 12
+abbrev pub checkTests : Counted → Links → Load → List ℕ
+checkTests c k load = sectionTests c ++ (loadLinkTests k load ++ facesTestsOf (accepted c) (c .layers) load)

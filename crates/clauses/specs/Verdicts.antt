@@ -1,11 +1,13 @@
--- The five verdicts, in document 01's sequence; the first as 02's ticket 1 has it. As is the area of the tension layers and dm their mean
--- depth. Assumes nothing.
+-- The six verdicts, in the documents' sequence; the first as 02's ticket 1 has it, the sixth by its ticket 3. As is the area of the tension
+-- layers and dm their mean depth. Assumes nothing.
 use Prim.Native.Nat.{ℕ, _*_}
 use mathlib.Core.Bool.{Bool, cond, _&&_}
 use lib.Dec.{leb}
 use lib.IntN.{ℤ, natAbs, negℤ}
 use lib.Signed.{leZ}
 use Rattle.arith.specs.Chain.{unless}
+use Rattle.links.specs.declared.Truss.{Truss}
+use Rattle.links.specs.Links.{trussResistance, spacingOk, ratioOk}
 use Rattle.clauses.specs.declared.Verdict.{Verdict}
 use Rattle.clauses.specs.declared.Verdict.the-variants.{Pass, Fail, NotReached}
 
@@ -43,3 +45,8 @@ fourth T fyk b As dm =
 -- five, 9.2.1.1(3): 25 times the area of all layers ≤ b·h
 abbrev pub fifth : ℕ → ℕ → ℕ → Verdict
 fifth area b h = judged (leb (25 * area) (b * h))
+
+-- six, 6.2.3, of a section with links and tension layers: pass when |V| is at most the resistance, the spacing at most 0.75·dm and the link
+-- ratio at least 0.08·√fck/fyk
+abbrev pub sixth : Truss → ℤ → Verdict
+sixth x «V» = judged (leb (natAbs «V») (trussResistance x) && (spacingOk x && ratioOk x))

@@ -1,8 +1,9 @@
-// Check: depths and moment resistances of both faces, and the verdicts. Document 01, "Verdicts", and 02's ticket 1.
+// Check: depths and moment resistances of both faces, and the verdicts. Document 01, "Verdicts", and 02's tickets 1 and 3.
 use super::Checked;
 use super::Face;
 use super::Report;
 use super::Verdict;
+use super::linked::check_links;
 use super::numbers::verdict_number;
 use super::tension::tension_reinforcement;
 use super::verdicts;
@@ -10,13 +11,14 @@ use equilibrium::Depth;
 use equilibrium::resistance::moment_resistance;
 use equilibrium::search;
 use section::Design;
+use section::Links;
 use section::Load;
 use section::columns;
 use shear::shear_resistance;
 ghost use mathlib.Core.Bool.{true};
 ghost use mathlib.Core.Path.{_≡_};
 ghost use lib.ListN.{length};
-ghost use Rattle.section.specs.Code.Usable.{Usable, LoadOk};
+ghost use Rattle.section.specs.Code.Usable.{Usable, LoadOk, LinksOk};
 ghost use Rattle.section.specs.Code.Columns.{layersIn, areaSum};
 ghost use Rattle.section.specs.Turned.{turned};
 ghost use Rattle.equilibrium.specs.Code.Whole.{DepthOk, carriesAtOne};
@@ -31,18 +33,20 @@ fn report_of(
     depths: &[u32; 16],
     areas: &[u32; 16],
     steel: u64,
+    k: Links,
     l: Load,
     face: Face,
     other: Face,
     moment: Verdict,
 ) -> Report
     requires { ⌜ Usable x count (layersIn count (now depths) (now areas)) ⌝ }
-    requires { ⌜ (steel ≡ areaSum (layersIn count (now depths) (now areas))) × (LoadOk l × DepthOk x (face .u)) ⌝ }
-    ensures { λ r. ⌜ r ≡ reportOf x (layersIn count (now (depths .entry)) (now (areas .entry))) l face other moment ⌝ }
+    requires { ⌜ (steel ≡ areaSum (layersIn count (now depths) (now areas))) × ((LinksOk k l × LoadOk l) × DepthOk x (face .u)) ⌝ }
+    ensures { λ r. ⌜ r ≡ reportOf x (layersIn count (now (depths .entry)) (now (areas .entry))) k l face other moment ⌝ }
 {
     let u = face.u;
     let t = tension_reinforcement(count, depths, areas, u);
     let vrd = shear_resistance(x.b, x.h, x.m.fck, x.m.g, l.n, t.area, t.depth);
+    let linked = check_links(x, k, l.v, t.area, t.depth);
     Report {
         u: u,
         mrd: face.mrd,
@@ -50,11 +54,14 @@ fn report_of(
         vrd: vrd,
         dm: t.depth,
         area: t.area,
+        cotangent: linked.cotangent,
+        truss: linked.resistance,
         moment: verdict_number(moment),
         depth: verdict_number(verdicts::depth_verdict(x.m.fck, u, t.area, t.depth)),
         shear: verdict_number(verdicts::shear_verdict(l.v, vrd, t.area)),
         least: verdict_number(verdicts::least_verdict(x.m.t, x.m.fyk, x.b, t.area, t.depth)),
         most: verdict_number(verdicts::most_verdict(steel, x.b, x.h)),
+        links: linked.verdict,
     }
 }
 
@@ -91,13 +98,14 @@ fn report_at<'a>(
     bottom: &'a [u32; 16],
     areas: &[u32; 16],
     steel: u64,
+    k: Links,
     l: Load,
     t: u64,
     b: u64,
 ) -> Report
-    requires { ⌜ Faces x count (layersIn count (now top) (now areas)) (layersIn count (now bottom) (now areas)) steel l ⌝ }
+    requires { ⌜ Faces x count (layersIn count (now top) (now areas)) (layersIn count (now bottom) (now areas)) steel k l ⌝ }
     requires { ⌜ DepthOk x t × DepthOk x b ⌝ }
-    ensures { λ r. ⌜ r ≡ reportAt x l (layersIn count (now (top .entry)) (now (areas .entry))) (layersIn count (now (bottom .entry)) (now (areas .entry)))
+    ensures { λ r. ⌜ r ≡ reportAt x k l (layersIn count (now (top .entry)) (now (areas .entry))) (layersIn count (now (bottom .entry)) (now (areas .entry)))
         t b ⌝ }
 {
     let high = face_at(x, count, top, areas, t);
@@ -106,7 +114,7 @@ fn report_at<'a>(
     let depths = compressed_depths(l.m, top, bottom);
     let face = of_compressed(l.m, high, low);
     let other = of_compressed(l.m, low, high);
-    report_of(x, count, depths, areas, steel, l, face, other, moment)
+    report_of(x, count, depths, areas, steel, k, l, face, other, moment)
 }
 
 // 12 or the report, where depth 1 carries: one search for each face.
@@ -117,34 +125,47 @@ fn check_faces<'a>(
     bottom: &'a [u32; 16],
     areas: &[u32; 16],
     steel: u64,
+    k: Links,
     l: Load,
 ) -> Checked
-    requires { ⌜ Faces x count (layersIn count (now top) (now areas)) (layersIn count (now bottom) (now areas)) steel l ⌝ }
+    requires { ⌜ Faces x count (layersIn count (now top) (now areas)) (layersIn count (now bottom) (now areas)) steel k l ⌝ }
     requires { ⌜ carriesAtOne x steel (l .n) ≡ true ⌝ }
     ensures { λ r. ⌜ r ≡ checkFaces x (layersIn count (now (top .entry)) (now (areas .entry))) (layersIn count (now (bottom .entry)) (now (areas .entry)))
-        l ⌝ }
+        k l ⌝ }
 {
     match search::depth_above_one(x, count, top, areas, steel, l.n) {
-        Depth::Refused(k) => Checked::Refused(k),
+        Depth::Refused(j) => Checked::Refused(j),
         Depth::At(t) => match search::depth_above_one(x, count, bottom, areas, steel, l.n) {
-            Depth::Refused(k) => Checked::Refused(k),
-            Depth::At(b) => Checked::Done(report_at(x, count, top, bottom, areas, steel, l, t, b)),
+            Depth::Refused(j) => Checked::Refused(j),
+            Depth::At(b) => Checked::Done(report_at(
+                x,
+                count,
+                top,
+                bottom,
+                areas,
+                steel,
+                k,
+                l,
+                t,
+                b,
+            )),
         },
     }
 }
 
-// An accepted section in columns, under a load that passed its tests. 11 is asked once for both faces.
+// An accepted section in columns, with links and under a load that passed their tests. 11 is asked once for both faces.
 pub fn check_accepted(
     x: Design,
     count: usize,
     depths: &[u32; 16],
     areas: &[u32; 16],
+    k: Links,
     l: Load,
 ) -> Checked
     requires { ⌜ Usable x count (layersIn count (now depths) (now areas)) ⌝ }
-    requires { ⌜ LoadOk l × (length (now depths) ≡ 16) ⌝ }
+    requires { ⌜ (LinksOk k l × LoadOk l) × (length (now depths) ≡ 16) ⌝ }
     ensures { λ r. ⌜ r ≡ checkFaces x (layersIn count (now (depths .entry)) (now (areas .entry)))
-        (turned (x .h) (layersIn count (now (depths .entry)) (now (areas .entry)))) l ⌝ }
+        (turned (x .h) (layersIn count (now (depths .entry)) (now (areas .entry)))) k l ⌝ }
 {
     let steel = columns::steel_area(count, areas);
     if !search::carries_at_one(x, steel, l.n) {
@@ -152,5 +173,5 @@ pub fn check_accepted(
     }
     let mut bottom = [0u32; 16];
     columns::turn_over(x.h, depths, &mut bottom);
-    check_faces(x, count, depths, &bottom, areas, steel, l)
+    check_faces(x, count, depths, &bottom, areas, steel, k, l)
 }

@@ -1,5 +1,6 @@
-// What the clauses of EN 1992-1-1 say of a section and its load: document 01, "Verdicts", and 02's ticket 1.
+// What the clauses of EN 1992-1-1 say of a section and its load: document 01, "Verdicts", and 02's tickets 1 and 3.
 mod check;
+mod linked;
 pub mod numbers;
 mod tension;
 mod verdicts;
@@ -11,10 +12,11 @@ use section::columns;
 use section::refusals;
 ghost use mathlib.Core.Path.{_≡_};
 ghost use Rattle.arith.specs.Chain.{firstFailing};
-ghost use Rattle.section.specs.Section.{counted};
+ghost use Rattle.section.specs.Section.{counted, linksOf};
 ghost use Rattle.clauses.specs.Refusals.{checkTests};
 ghost use Rattle.clauses.specs.Check.{checkOf, refusalNumber};
 ghost use Rattle.clauses.specs.Accuracy.{AccurateCheck};
+ghost use Rattle.clauses.specs.Best.{BestLinks};
 
 // What a clause says of the section: 0, 1 and 2 of document 01.
 pub enum Verdict {
@@ -31,8 +33,8 @@ pub struct Face {
 }
 
 // What Check finds of an accepted section and load: depth of the neutral axis and MRd of the face that M compresses, the same of
-// the other face, VRd,c in newtons, dm and As in mm and mm², and the verdicts in document 01's sequence and numbers. An enum holds
-// no array: here they stand by name, and in `Listed` as one array.
+// the other face, VRd,c in newtons, dm and As in mm and mm², of the links the strut's cotangent in tenths and the resistance in newtons,
+// and the verdicts in the documents' sequence and numbers. An enum holds no array: here they stand by name, and in `Listed` as one array.
 pub struct Report {
     pub u: u64,
     pub mrd: i64,
@@ -40,6 +42,8 @@ pub struct Report {
     pub vrd: u64,
     pub dm: u64,
     pub area: u64,
+    pub cotangent: u64,
+    pub truss: u64,
     // 6.1
     pub moment: u64,
     // 5.6.3(2)
@@ -50,6 +54,8 @@ pub struct Report {
     pub least: u64,
     // 9.2.1.1(3)
     pub most: u64,
+    // 6.2.3
+    pub links: u64,
 }
 
 pub enum Checked {
@@ -68,19 +74,24 @@ pub struct Listed {
     pub vrd: u64,
     pub dm: u64,
     pub area: u64,
-    pub verdicts: [u64; 5],
+    pub cotangent: u64,
+    pub truss: u64,
+    pub verdicts: [u64; 6],
 }
 
 // Check a section under a load. u, MRd, VRd,c, dm, As and verdicts two to four are those of the face that M compresses, `other` is the other
-// face; verdict one asks both, five neither.
-// Refusals: the section tests, the load tests, 11 N below the internal force at depth 1, 12 N above that at 10h of either face.
+// face; verdict one asks both, five neither. Verdict six and the links' figures are of the face that M compresses too.
+// Refusals: the section tests, the load tests, those of the links, 11 N below the internal force at depth 1, 12 N above that at 10h of
+// either face.
 pub fn check_section(s: Section, l: Load) -> Checked
     ensures { λ r. ⌜ r ≡ checkOf s l ⌝ }
-    ensures refusal { λ r. ⌜ refusalNumber r ≡ firstFailing (checkTests (counted s) l) ⌝ }
+    ensures refusal { λ r. ⌜ refusalNumber r ≡ firstFailing (checkTests (counted s) (linksOf s) l) ⌝ }
     ensures accurate { λ r. ⌜ AccurateCheck s l r ⌝ }
+    ensures best { λ r. ⌜ BestLinks s r ⌝ }
 {
     let layers = s.layers;
     let grade = s.grade;
+    let links = refusals::counted_links(s.links);
     let count = s.count;
     let mut depths = [0u32; 16];
     let mut areas = [0u32; 16];
@@ -88,9 +99,9 @@ pub fn check_section(s: Section, l: Load) -> Checked
     match refusals::accept(s.width, s.height, grade, count, &depths, &areas) {
         Accepted::Refused(k) => Checked::Refused(k),
         Accepted::Ready(x) => {
-            let k = refusals::load_refusal(l);
+            let k = refusals::load_link_refusal(links, l);
             if k == 0 {
-                check::check_accepted(x, count, &depths, &areas, l)
+                check::check_accepted(x, count, &depths, &areas, links, l)
             } else {
                 Checked::Refused(k)
             }

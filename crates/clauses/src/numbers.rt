@@ -25,7 +25,7 @@ pub fn verdict_number(v: Verdict) -> u64
 pub fn refused_listed(k: u64) -> Listed
     ensures { λ r. ⌜ r ≡ refusedListed k ⌝ }
 {
-    let verdicts = [2u64; 5];
+    let verdicts = [2u64; 6];
     Listed {
         refusal: k,
         u: 0,
@@ -34,6 +34,8 @@ pub fn refused_listed(k: u64) -> Listed
         vrd: 0,
         dm: 0,
         area: 0,
+        cotangent: 0,
+        truss: 0,
         verdicts: verdicts,
     }
 }
@@ -48,6 +50,7 @@ fn report_listed(report: Report) -> Listed
         report.shear,
         report.least,
         report.most,
+        report.links,
     ];
     Listed {
         refusal: 0,
@@ -57,6 +60,8 @@ fn report_listed(report: Report) -> Listed
         vrd: report.vrd,
         dm: report.dm,
         area: report.area,
+        cotangent: report.cotangent,
+        truss: report.truss,
         verdicts: verdicts,
     }
 }

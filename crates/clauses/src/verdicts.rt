@@ -1,4 +1,4 @@
-// The five verdicts, in document 01's sequence; the first as 02's ticket 1 has it.
+// Verdicts one to five, in document 01's sequence; the first as 02's ticket 1 has it. The sixth stands with the links.
 use super::Verdict;
 ghost use mathlib.Core.Path.{_≡_};
 ghost use Prim.Native.Nat.{_≤_};
@@ -6,7 +6,7 @@ ghost use Rattle.arith.specs.Integer.{Within};
 ghost use Rattle.clauses.specs.Verdicts.{judged, reached, first, second, third, fourth, fifth};
 ghost use Rattle.clauses.specs.Code.Ranges.{LeastBounds};
 
-fn judge(passes: bool) -> Verdict
+pub fn judge(passes: bool) -> Verdict
     ensures { λ r. ⌜ r ≡ judged passes ⌝ }
 {
     if passes { Verdict::Pass } else { Verdict::Fail }

@@ -10,7 +10,7 @@ ghost use mathlib.Core.Path.{_≡_};
 ghost use Rattle.equilibrium.specs.Depth.{findDepth};
 ghost use Rattle.equilibrium.specs.Moment.{momentAt};
 ghost use Rattle.clauses.specs.Check.{checkOf, listed};
-ghost use Rattle.section.specs.Section.{counted};
+ghost use Rattle.section.specs.Section.{counted, linksOf};
 ghost use Rattle.arith.specs.Chain.{firstFailing};
 ghost use Rattle.record.specs.Refusals.{readTests, writeTests};
 ghost use Rattle.record.specs.Read.{readOf, RestIgnored};
@@ -83,9 +83,9 @@ pub extern "C" fn salwoerk_read(bytes: &[u8]) -> Reading
 
 #[no_mangle]
 pub extern "C" fn salwoerk_write(s: Section, l: Load, buffer: &mut [u8]) -> Written
-    ensures { λ r. ⌜ r ≡ writtenOf (counted s) l (now (buffer .entry)) ⌝ }
-    ensures lent { λ _. ⌜ now (buffer .exit) ≡ bufferOf (counted s) l (now (buffer .entry)) ⌝ }
-    ensures refusal { λ r. ⌜ r .refusal ≡ firstFailing (writeTests (counted s) l (now (buffer .entry))) ⌝ }
+    ensures { λ r. ⌜ r ≡ writtenOf (counted s) (linksOf s) l (now (buffer .entry)) ⌝ }
+    ensures lent { λ _. ⌜ now (buffer .exit) ≡ bufferOf (counted s) (linksOf s) l (now (buffer .entry)) ⌝ }
+    ensures refusal { λ r. ⌜ r .refusal ≡ firstFailing (writeTests (counted s) (linksOf s) l (now (buffer .entry))) ⌝ }
     ensures round_trip { λ r. ⌜ ReadsBack s l r (now (buffer .exit)) ⌝ }
 {
     record::writer::write(s, l, buffer)

@@ -33,7 +33,7 @@ pub record Fitting (a : Listed) : Type 0 where
   pub vrd : a .vrd < 2 ^ 64
   pub dm : a .dm < 2 ^ 64
   pub area : a .area < 2 ^ 64
-  pub count : length (a .verdicts) ≡ 5
+  pub count : length (a .verdicts) ≡ 6
   pub verdicts : Judged (a .verdicts)
 
 -- words of one digit, each after a space
@@ -41,8 +41,8 @@ digits-most : (vs end : List ℕ) → Judged vs → length (spaced (map natural 
 digits-most [] end h = omega arith
 digits-most (v ∷ vs) end h = simp (length-append, natural-one v (h .0)) (omega (arith, digits-most vs end (h .1)))
 
--- a number of at most 20 digits, six words of as many, five of one digit, and the newline
-pub any-line : (k : ℕ) (a : Listed) → k < 2 ^ 64 → Fitting a → length (line k a) ≤ 157
+-- a number of at most 20 digits, six words of as many, six of one digit, and the newline
+pub any-line : (k : ℕ) (a : Listed) → k < 2 ^ 64 → Fitting a → length (line k a) ≤ 159
 unfolding line
 any-line k a h f =
     simp length-append
@@ -59,8 +59,8 @@ any-line k a h f =
       f .count,
     ))
 
--- a refused record: its number, its refusal, and ten words of one digit
-pub refused-line : (k r : ℕ) → k < 2 ^ 64 → r < 256 → length (line k (refusedListed r)) ≤ 45
+-- a refused record: its number, its refusal, and eleven words of one digit
+pub refused-line : (k r : ℕ) → k < 2 ^ 64 → r < 256 → length (line k (refusedListed r)) ≤ 47
 unfolding line integer
 refused-line k r h g =
     simp (length-append, natural-one 0 (omega arith), natural-one 2 (omega arith)) (omega (arith, most-64 k h, most-8 r g))

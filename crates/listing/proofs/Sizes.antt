@@ -15,14 +15,15 @@ use Rattle.arith.specs.Every.{every}
 use Rattle.arith.specs.Integer.{Within}
 use Rattle.section.specs.declared.Layer.{Layer}
 use Rattle.section.specs.declared.Section.{Section}
+use Rattle.section.specs.declared.Links.{Links}
 use Rattle.section.specs.declared.Load.{Load}
 use Rattle.section.specs.declared.Design.{Design}
 use Rattle.section.specs.declared.Accepted.{Accepted}
 use Rattle.section.specs.declared.Accepted.the-variants as section
 use Rattle.equilibrium.specs.declared.Depth.{Depth}
 use Rattle.equilibrium.specs.declared.Depth.the-variants as depth
-use Rattle.section.specs.Section.{layersOf, counted}
-use Rattle.section.specs.Refusals.{accepted, loadTests, sectionRefusals, loadRefusals}
+use Rattle.section.specs.Section.{layersOf, counted, linksOf}
+use Rattle.section.specs.Refusals.{accepted, loadLinkTests, sectionRefusals, loadLinkRefusals}
 use Rattle.equilibrium.specs.Refusals.{carries, faceRefusals}
 use Rattle.section.specs.Code.Usable.{Usable, LoadOk}
 use Rattle.section.specs.Turned.{turned}
@@ -30,7 +31,7 @@ use Rattle.equilibrium.specs.Force.{momentResistance}
 use Rattle.equilibrium.specs.Code.Whole.{DepthOk}
 use Rattle.equilibrium.specs.Depth.{depthFor}
 use Rattle.equilibrium.specs.Accuracy.{PromisedDepth}
-use Rattle.section.proofs.Usable.{section-promise, usable-by, load-one-of, load-ok}
+use Rattle.section.proofs.Usable.{section-promise, usable-by, load-link-one-of, load-links-ok}
 use Rattle.section.proofs.Turned.{usable-turned}
 use Rattle.equilibrium.proofs.Sizes.{depth-most, resistance-in}
 use Rattle.equilibrium.proofs.DepthOne.{one-turned}
@@ -43,7 +44,8 @@ use Rattle.clauses.specs.declared.Face.{Face}
 use Rattle.clauses.specs.declared.Verdict.{Verdict}
 use Rattle.clauses.specs.declared.Verdict.the-variants.{Pass, Fail, NotReached}
 use Rattle.clauses.specs.declared.Checked.the-variants.{Done}
-use Rattle.clauses.specs.Verdicts.{numberOf, first, second, third, fourth, fifth}
+use Rattle.clauses.specs.Verdicts.{numberOf, first, second, third, fourth, fifth, sixth}
+use Rattle.clauses.specs.Linked.{trussOf, reachesLinks, linkReport, noLinkReport, linkedReport}
 use Rattle.clauses.specs.Tension.{areaOf, As, dm}
 use Rattle.clauses.specs.Check.{refusedListed, listed, faceAt, reportOf, reportAt, checkFaces, checkOf}
 use Rattle.clauses.proofs.Layers.{counts, As-high, dm-high, stress-in}
@@ -56,8 +58,8 @@ use Rattle.listing.proofs.Longest.{Fitting}
 small : (ns : List ℕ) {k : ℕ} → T (every (λ n. ltb n 256) ns) → OneOf ns k → k < 256
 small ns {k} all m = ltb→lt k 256 (passes (λ n. ltb n 256) ns all m)
 
-load-small : (l : Load) → firstFailing (loadTests l) < 256
-load-small l = small (0 ∷ loadRefusals) tt (load-one-of l)
+load-small : (k : Links) (l : Load) → firstFailing (loadLinkTests k l) < 256
+load-small k l = small (0 ∷ loadLinkRefusals) tt (load-link-one-of k l)
 
 -- ---- the answer of Check
 
@@ -71,7 +73,7 @@ refused-fits k h =
       dm = omega arith;
       area = omega arith;
       count = refl;
-      verdicts = (lit< tt, (lit< tt, (lit< tt, (lit< tt, (lit< tt, tt)))));
+      verdicts = (lit< tt, (lit< tt, (lit< tt, (lit< tt, (lit< tt, (lit< tt, tt))))));
     }
 
 -- VRd,c
@@ -102,11 +104,20 @@ digit-of Pass = lit< tt
 digit-of Fail = lit< tt
 digit-of NotReached = lit< tt
 
+-- the sixth too
+sixth-digit : (x : Design) (k : Links) (v : ℤ) (As dm : ℕ) → linkedReport x k v As dm .verdict < 10
+unfolding linkedReport
+sixth-digit x k v As dm = go (reachesLinks k As)
+  where
+    go : (t : Bool) → cond t (linkReport (trussOf x k dm) v) noLinkReport .verdict < 10
+    go true = digit-of (sixth (trussOf x k dm) v)
+    go false = lit< tt
+
 -- what is reported of a face, whose layers are ls
-report-fits : {x : Design} {count : ℕ} (ls : List Layer) (l : Load) (face other : Face) (v : Verdict) → Usable x count ls → LoadOk l
-    → DepthOk x (face .u) → Within (face .mrd) 7000000000000000000 → Fitting (listed (Done (reportOf x ls l face other v)))
+report-fits : {x : Design} {count : ℕ} (ls : List Layer) (k : Links) (l : Load) (face other : Face) (v : Verdict) → Usable x count ls → LoadOk l
+    → DepthOk x (face .u) → Within (face .mrd) 7000000000000000000 → Fitting (listed (Done (reportOf x ls k l face other v)))
 unfolding reportOf
-report-fits {x} ls l face other v w ok d m =
+report-fits {x} ls k l face other v w ok d m =
     let u = face .u in
     let n = counts ls w in
     let b = w .bounded in
@@ -127,45 +138,48 @@ report-fits {x} ls l face other v w ok d m =
           digit-of (second (x .m .fck) u area mean),
           (
             digit-of (third (l .v) (VRdc record { b = x .b; h = x .h; fck = x .m .fck; g = x .m .g; N = l .n; As = area; dm = mean }) area),
-            (digit-of (fourth (x .m .t) (x .m .fyk) (x .b) area mean), (digit-of (fifth (areaOf ls) (x .b) (x .h)), tt)),
+            (
+              digit-of (fourth (x .m .t) (x .m .fyk) (x .b) area mean),
+              (digit-of (fifth (areaOf ls) (x .b) (x .h)), (sixth-digit x k (l .v) area mean, tt)),
+            ),
           ),
         ),
       );
     }
 
-module _ {x : Design} {count : ℕ} (ls : List Layer) (l : Load) (w : Usable x count ls) (ok : LoadOk l) where
+module _ {x : Design} {count : ℕ} (ls : List Layer) (k : Links) (l : Load) (w : Usable x count ls) (ok : LoadOk l) where
   abbrev below : List Layer
   below = turned (x .h) ls
 
   -- whichever face M compresses
-  either-fits : (t b : ℕ) → DepthOk x t → DepthOk x b → Fitting (listed (Done (reportAt x l ls below t b)))
+  either-fits : (t b : ℕ) → DepthOk x t → DepthOk x b → Fitting (listed (Done (reportAt x k l ls below t b)))
   unfolding reportAt
   either-fits t b d e = go (leZ (pos 0) (l .m))
     where
-      go : (z : Bool) → Fitting (listed (Done (reportOf x (cond z ls below) l (cond z (faceAt x ls t) (faceAt x below b))
+      go : (z : Bool) → Fitting (listed (Done (reportOf x (cond z ls below) k l (cond z (faceAt x ls t) (faceAt x below b))
           (cond z (faceAt x below b) (faceAt x ls t)) (first (l .m) (momentResistance x ls t) (momentResistance x below b)))))
-      go true = report-fits ls l _ _ _ w ok d (resistance-in w d)
-      go false = report-fits below l _ _ _ (usable-turned ls w) ok e (resistance-in (usable-turned ls w) e)
+      go true = report-fits ls k l _ _ _ w ok d (resistance-in w d)
+      go false = report-fits below k l _ _ _ (usable-turned ls w) ok e (resistance-in (usable-turned ls w) e)
 
-  faces-fit : Fitting (listed (checkFaces x ls below l))
+  faces-fit : Fitting (listed (checkFaces x ls below k l))
   faces-fit = go (depthFor x ls (l .n)) (depthFor x below (l .n)) refl refl (depth-promise (l .n) w) (depth-promise (l .n) (usable-turned ls w))
     where
       same : carries x below (l .n) 1 ≡ carries x ls (l .n) 1
       same = one-turned ls (l .n) w
 
       go : (d e : Depth) → depthFor x ls (l .n) ≡ d → depthFor x below (l .n) ≡ e → PromisedDepth x ls (l .n) d → PromisedDepth x below (l .n) e
-          → Fitting (listed (checkFaces x ls below l))
-      go (depth.Refused k) e i j p q = rw (← top-refused x ls below l same i) (refused-fits k (small faceRefusals tt p))
-      go (depth.At t) (depth.Refused k) i j p q = rw (← bottom-refused x ls below l same i j) (refused-fits k (small faceRefusals tt q))
-      go (depth.At t) (depth.At b) i j p q = rw (← both-at x ls below l same i j) (either-fits t b (p .depth) (q .depth))
+          → Fitting (listed (checkFaces x ls below k l))
+      go (depth.Refused r) e i j p q = rw (← top-refused x ls below k l same i) (refused-fits r (small faceRefusals tt p))
+      go (depth.At t) (depth.Refused r) i j p q = rw (← bottom-refused x ls below k l same i j) (refused-fits r (small faceRefusals tt q))
+      go (depth.At t) (depth.At b) i j p q = rw (← both-at x ls below k l same i j) (either-fits t b (p .depth) (q .depth))
 
 pub check-fits : (s : Section) (l : Load) → Fitting (listed (checkOf s l))
 check-fits s l = go (accepted (counted s)) refl
   where
-    under : {x : Design} (k : ℕ) → firstFailing (loadTests l) ≡ k → accepted (counted s) ≡ section.Ready x → Fitting (listed (checkOf s l))
-    under zero none e = rw (← load-passed s l e none) (faces-fit (layersOf s) l (usable-by s e) (load-ok l none))
-    under (suc k) some e = rw (← load-refused s l (suc k) e (sym some) (λ z. omega arith)) (refused-fits (suc k) (rw (← some) (load-small l)))
+    under : {x : Design} (k : ℕ) → firstFailing (loadLinkTests (linksOf s) l) ≡ k → accepted (counted s) ≡ section.Ready x → Fitting (listed (checkOf s l))
+    under zero none e = rw (← load-passed s l e none) (faces-fit (layersOf s) (linksOf s) l (usable-by s e) (load-links-ok (linksOf s) l none .load))
+    under (suc k) some e = rw (← load-refused s l (suc k) e (sym some) (λ z. omega arith)) (refused-fits (suc k) (rw (← some) (load-small (linksOf s) l)))
 
     go : (a : Accepted) → accepted (counted s) ≡ a → Fitting (listed (checkOf s l))
     go (section.Refused k) e = rw (← check-refused s l e) (refused-fits k (small sectionRefusals tt (rw e at (section-promise s))))
-    go (section.Ready x) e = under (firstFailing (loadTests l)) refl e
+    go (section.Ready x) e = under (firstFailing (loadLinkTests (linksOf s) l)) refl e

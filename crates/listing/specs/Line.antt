@@ -1,4 +1,4 @@
--- A line of the list: document 01, "The list". Assumes nothing.
+-- A line of the list: document 01, "The list"; six verdicts by 02's ticket 3. Assumes nothing.
 use Prim.Native.Nat.{ℕ}
 use mathlib.Core.List.{List, [], _∷_, _++_, map}
 use Rattle.clauses.specs.declared.Listed.{Listed}

@@ -1,4 +1,4 @@
--- What the check list program prints: document 01, "The list" and "List program". Assumes nothing.
+-- What the check list program prints: document 01, "The list" and "List program"; v6 by 02's ticket 3. Assumes nothing.
 use Prim.Native.Nat.{ℕ}
 use mathlib.Core.Bool.{cond}
 use mathlib.Core.List.{List, [], _∷_, _++_}
@@ -8,7 +8,7 @@ use Rattle.clauses.specs.Check.{refusedListed}
 use Rattle.listing.specs.Line.{line}
 use Rattle.listing.specs.Records.{listOf}
 
--- `rec ref u mrd vrd dm as v1 v2 v3 v4 v5` and a newline, in the bytes of ASCII: a word to a row, and what follows it
+-- `rec ref u mrd vrd dm as v1 v2 v3 v4 v5 v6` and a newline, in the bytes of ASCII: a word to a row, and what follows it
 abbrev pub firstLine : List ℕ
 firstLine =
     114 ∷ 101 ∷ 99 ∷ 32
@@ -22,7 +22,8 @@ firstLine =
     ∷ 118 ∷ 50 ∷ 32
     ∷ 118 ∷ 51 ∷ 32
     ∷ 118 ∷ 52 ∷ 32
-    ∷ 118 ∷ 53 ∷ 10
+    ∷ 118 ∷ 53 ∷ 32
+    ∷ 118 ∷ 54 ∷ 10
     ∷ []
 
 -- for 26 the one further line has number 0

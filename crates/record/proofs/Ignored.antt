@@ -10,12 +10,14 @@ use lib.IntN.{pos}
 use lib.ListN.{length, take, length-append, List·getD-append}
 use lib.Seq.{length-take-le, getD-take}
 use Rattle.arith.specs.Chain.{firstFailing}
+use Rattle.section.specs.Section.{noLinks, linksWith}
 use Rattle.section.specs.declared.Layer.{Layer}
+use Rattle.section.specs.declared.Links.{Links}
 use Rattle.record.specs.declared.Reading.{Reading}
 use Rattle.record.specs.Bytes.{numberAt, signed}
 use Rattle.record.specs.Map.{stands, offset, recordLength, onlyFields, complete}
-use Rattle.record.specs.Fields.{fieldOf, layerBit, isNumber, missing}
-use Rattle.record.specs.Contents.{numberOf, layerAt, layersTo, sectionWith, loadWith, sectionOf, loadOf}
+use Rattle.record.specs.Fields.{fieldOf, linkBit, layerBit, isNumber, missing}
+use Rattle.record.specs.Contents.{numberOf, linksAt, linksIn, layerAt, layersTo, sectionWith, loadWith, sectionOf, loadOf}
 use Rattle.record.specs.Refusals.{mapIn, readTests}
 use Rattle.record.specs.Read.{readOf, RestIgnored}
 use Rattle.record.proofs.Bits.{room}
@@ -58,6 +60,16 @@ module _ (xs ys : List ℕ) (m : ℕ) (h : recordLength m ≤ length xs) where
       go true false e f = refl
       go false u e f = refl
 
+  links-same : linksIn X m ≡ linksIn xs m
+  links-same = go (stands m linkBit) refl
+    where
+      go : (t : Bool) → stands m linkBit ≡ t → cond t (linksAt X (offset m linkBit)) noLinks ≡ cond t (linksAt xs (offset m linkBit)) noLinks
+      go true e =
+          let at = offset m linkBit in
+          let r : at + 8 ≤ recordLength m = room m linkBit (recordLength m) (omega arith) e (le-refl (recordLength m)) in
+          ap₂ linksWith (same at 4 (omega arith)) (same (at + 4) 4 (omega arith))
+      go false e = refl
+
   layers-same : (j : ℕ) → j ≤ 16 → layersTo X m j ≡ layersTo xs m j
   unfolding layersTo
   layers-same zero g = refl
@@ -74,7 +86,7 @@ module _ (xs ys : List ℕ) (m : ℕ) (h : recordLength m ≤ length xs) where
 
   section-same : sectionOf xs m ≡ sectionOf X m
   unfolding sectionOf
-  section-same = sym (λ i. sectionWith (λ k. numbers-same k i) (layers-same 16 (le-refl 16) i))
+  section-same = sym (λ i. sectionWith (λ k. numbers-same k i) (links-same i) (layers-same 16 (le-refl 16) i))
 
   load-same : loadOf xs m ≡ loadOf X m
   unfolding loadOf

@@ -8,10 +8,11 @@ use lib.Dec.{lit<}
 use lib.ListN.{length, getD}
 use lib.Signed.{mag}
 use Rattle.arith.proofs.Test.{both-true}
-use Rattle.section.specs.Section.{counted, layersOf, all, depthOk, areaOk, noLayer}
+use Rattle.section.specs.Section.{counted, layersOf, linksOf, all, depthOk, areaOk, noLayer}
 use Rattle.section.specs.declared.Layer.{Layer}
 use Rattle.section.specs.declared.Section.{Section}
 use Rattle.section.specs.declared.Load.{Load}
+use Rattle.section.proofs.CountedLinks.{counted-small}
 use Rattle.section.proofs.OneLayer.{layer-ok}
 use Rattle.section.proofs.Usable.{all-passed}
 use Rattle.record.specs.declared.fields.Number.{Number}
@@ -31,6 +32,8 @@ pub record Carried (s : Section) (l : Load) : Type 0 where
   pub machine : Machine s l
   pub few : s .count ≤ 16
   pub layers : (j : ℕ) → FourBytes (getD (layersOf s) j noLayer)
+  pub link-area : linksOf s .area < 2 ^ 32
+  pub link-spacing : linksOf s .spacing < 2 ^ 32
 
 -- a layer that passed has a depth and an area of four bytes, and so has a place beyond the layers
 four-bytes : (h : ℕ) → h ≤ 2000 → (ls : List Layer) → all (depthOk h) ls ≡ true → all areaOk ls ≡ true → (j : ℕ) → FourBytes (getD ls j noLayer)
@@ -43,6 +46,13 @@ four-bytes h low (y ∷ ls) d a (suc j) =
 
 pub carried : (s : Section) (l : Load) → Machine s l → testsOf s l ≡ 0 → Carried s l
 carried s l m e =
-    let p = all-passed s l e in
+    let p = all-passed s (linksOf s) l e in
     let w = p .section .usable in
-    record { machine = m; few = w .count-high; layers = four-bytes (p .design .h) (w .bounded .h-high) (layersOf s) (w .depths) (w .areas) }
+    let k = counted-small (s .links) l (p .loaded .links) in
+    record {
+      machine = m;
+      few = w .count-high;
+      layers = four-bytes (p .design .h) (w .bounded .h-high) (layersOf s) (w .depths) (w .areas);
+      link-area = omega (arith, k .0);
+      link-spacing = omega (arith, k .1);
+    }

@@ -10,11 +10,12 @@ use lib.ListN.{length}
 use Rattle.arith.specs.Chain.{test, orElse, firstFailing, OneOf}
 use Rattle.arith.proofs.Chain.{first-of, passes, among, first-one-of, test-one-of}
 use Rattle.arith.proofs.Test.{is-true, both-true, clash}
-use Rattle.section.specs.Section.{Counted, counted}
-use Rattle.section.specs.Refusals.{sectionTests, sectionRefusals, loadTests, loadRefusals}
+use Rattle.section.specs.Section.{Counted, counted, linksOf}
+use Rattle.section.specs.Refusals.{sectionTests, sectionRefusals, loadLinkTests, loadLinkRefusals}
 use Rattle.section.specs.declared.Section.{Section}
+use Rattle.section.specs.declared.Links.{Links}
 use Rattle.section.specs.declared.Load.{Load}
-use Rattle.section.proofs.Usable.{section-one-of, load-one-of}
+use Rattle.section.proofs.Usable.{section-one-of, load-link-one-of}
 use Rattle.record.specs.declared.Reading.{Reading}
 use Rattle.record.specs.Map.{stands, recordLength, onlyFields, completeTo, complete}
 use Rattle.record.specs.Contents.{sectionOf, loadOf}
@@ -22,12 +23,12 @@ use Rattle.record.specs.Refusals.{mapIn, readTests, readRefusals, namesL
 use Rattle.record.specs.Read.{refusedReading, readingBy, readOf}
 use Rattle.record.proofs.Bits.{room, offset-yes}
 
--- ---- by the answers of the tests: 20, 21, 22, 23, and those of the section and the load
+-- ---- by the answers of the tests: 20, 21, 22, 23, and those of the section, the load and the links
 abbrev pub byAnswers : Bool → Bool → Bool → Bool → ℕ → Section → Load → ℕ → Reading
 byAnswers a b c d n s l k = readingBy n s l (orElse (test 20 a) (orElse (test 21 b) (orElse (test 22 c) (orElse (test 23 d) k))))
 
 abbrev pub testsOf : Section → Load → ℕ
-testsOf s l = firstFailing (sectionTests (counted s) ++ loadTests l)
+testsOf s l = firstFailing (sectionTests (counted s) ++ loadLinkTests (linksOf s) l)
 
 -- `refl` where an answer does not matter
 pub chosen : (xs : List ℕ) {m : ℕ} {s : Section} {l : Load} (a b c d : Bool) (k : ℕ) → m ≡ mapIn xs → s ≡ sectionOf xs m → l ≡ loadOf xs m
@@ -43,17 +44,18 @@ chosen xs {m} {s} {l} a b c d k em es el ea eb ec ed ek =
     of m s l = byAnswers (leb 4 (length xs)) (onlyFields m) (leb (recordLength m) (length xs)) (complete m) (recordLength m) s l (testsOf s l)
 
 -- ---- the refusals
-tests-one-of : (c : Counted) (l : Load) → OneOf (0 ∷ (sectionRefusals ++ loadRefusals)) (firstFailing (sectionTests c ++ loadTests l))
-tests-one-of c l =
-    rw (first-of (sectionTests c) (loadTests l))
-    (first-one-of (firstFailing (sectionTests c)) (among (0 ∷ (sectionRefusals ++ loadRefusals)) (0 ∷ sectionRefusals) tt (section-one-of c))
-    (among (0 ∷ (sectionRefusals ++ loadRefusals)) (0 ∷ loadRefusals) tt (load-one-of l)))
+tests-one-of : (c : Counted) (links : Links) (l : Load)
+    → OneOf (0 ∷ (sectionRefusals ++ loadLinkRefusals)) (firstFailing (sectionTests c ++ loadLinkTests links l))
+tests-one-of c links l =
+    rw (first-of (sectionTests c) (loadLinkTests links l))
+    (first-one-of (firstFailing (sectionTests c)) (among (0 ∷ (sectionRefusals ++ loadLinkRefusals)) (0 ∷ sectionRefusals) tt (section-one-of c))
+    (among (0 ∷ (sectionRefusals ++ loadLinkRefusals)) (0 ∷ loadLinkRefusals) tt (load-link-one-of links l)))
 
--- a refusal of the section or the load names the length
+-- a refusal of the section, the load or the links names the length
 tests-name : (s : Section) (l : Load) (k : ℕ) → k ≡ testsOf s l → namesLength k ≡ true
 tests-name s l k e =
-    let one : OneOf (0 ∷ (sectionRefusals ++ loadRefusals)) k = rw e (tests-one-of (counted s) l) in
-    is-true (namesLength k) (passes namesLength (0 ∷ (sectionRefusals ++ loadRefusals)) tt one)
+    let one : OneOf (0 ∷ (sectionRefusals ++ loadLinkRefusals)) k = rw e (tests-one-of (counted s) (linksOf s) l) in
+    is-true (namesLength k) (passes namesLength (0 ∷ (sectionRefusals ++ loadLinkRefusals)) tt one)
 
 pub refused-by : (n : ℕ) (s : Section) (l : Load) (k : ℕ) → (k ≡ 0 → ⊥) → k ≡ testsOf s l → refusedReading k n ≡ readingBy n s l k
 refused-by n s l zero h e = absurd (h refl)
@@ -78,7 +80,7 @@ read-one-of xs =
     (test-one-of 21 (onlyFields m) (record { member = tt })
     (test-one-of 22 (leb (recordLength m) (length xs)) (record { member = tt })
     (test-one-of 23 (complete m) (record { member = tt })
-    (among (0 ∷ readRefusals) (0 ∷ (sectionRefusals ++ loadRefusals)) tt (tests-one-of (counted (sectionOf xs m)) (loadOf xs m)))))))
+    (among (0 ∷ readRefusals) (0 ∷ (sectionRefusals ++ loadLinkRefusals)) tt (tests-one-of (counted (sectionOf xs m)) (linksOf (sectionOf xs m)) (loadOf xs m)))))))
 
 pub refusal-small : (xs : List ℕ) → readOf xs .refusal < 256
 refusal-small xs = ltb→lt (readOf xs .refusal) 256 (passes (λ k. ltb k 256) (0 ∷ readRefusals) tt (read-one-of xs))

@@ -15,24 +15,26 @@ use Rattle.arith.specs.Chain.{firstFailing}
 use Rattle.arith.specs.Integer.{inRange}
 use Rattle.arith.proofs.Chain.{both-zero}
 use Rattle.arith.proofs.Test.{clash, both-true, and-true}
-use Rattle.section.specs.Section.{Counted, counted, layersOf, noLayer}
-use Rattle.section.specs.Refusals.{sectionTests, loadTests}
+use Rattle.section.specs.Section.{Counted, counted, layersOf, noLayer, absent, noLinks, linksWith, linksOf}
+use Rattle.section.specs.Refusals.{sectionTests, loadLinkTests}
 use Rattle.section.specs.declared.Layer.{Layer}
+use Rattle.section.specs.declared.Links.{Links}
 use Rattle.section.specs.declared.Section.{Section}
 use Rattle.section.specs.declared.Load.{Load}
 use Rattle.record.specs.declared.Written.{Written}
 use Rattle.record.specs.declared.fields.Number.{Number}
 use Rattle.record.specs.declared.fields.Field.{Field}
-use Rattle.record.specs.declared.fields.Field.the-variants.{Must, May, LayerAt, Unused}
+use Rattle.record.specs.declared.fields.Field.the-variants.{Must, May, LinkPair, LayerAt, Unused}
 use Rattle.record.specs.Bytes.{numberAt, bytesOf, signed, unsigned}
 use Rattle.record.specs.Map.{stands, offset, recordLength, fieldedTo, onlyFields, completeTo, complete}
-use Rattle.record.specs.Fields.{width, fieldOf, layerBit, hasField, mustStand, isNumber, missing}
-use Rattle.record.specs.Contents.{numberOf, layerAt, layersTo, filled, sectionWith, loadWith, sectionOf, loadOf}
+use Rattle.record.specs.Fields.{width, fieldOf, linkBit, layerBit, hasField, mustStand, isNumber, missing}
+use Rattle.record.specs.Contents.{numberOf, linksAt, linksIn, layerAt, layersTo, filled, sectionWith, loadWith, sectionOf, loadOf}
 use Rattle.record.specs.Layout.{valueOf, fieldBytes, writes, mapOf, fieldsTo, fields, recordOf}
 use Rattle.record.specs.Refusals.{mapIn, writeTests}
 use Rattle.record.specs.Read.{readOf}
 use Rattle.record.specs.Write.{writtenBy, changedBy, writtenOf, bufferOf}
 use Rattle.record.specs.RoundTrip.{cleared, readBack, ReadsBack}
+use Rattle.section.proofs.CountedLinks.{counted-none, counted-some, counted-absent, counted-twice}
 use Rattle.record.proofs.Digits.{length-bytes, read-back, signed-unsigned, unsigned-fits}
 use Rattle.record.proofs.Passed.{Machine, Carried, carried}
 use Rattle.record.proofs.Places.{layers-yes, layers-no}
@@ -93,20 +95,23 @@ module _ (s : Section) (l : Load) (q : List ℕ) where
   abbrev c : Counted
   c = counted s
 
+  abbrev links : Links
+  links = linksOf s
+
   abbrev M : ℕ
-  M = mapOf c l
+  M = mapOf c links l
 
   abbrev X : List ℕ
-  X = recordOf c l ++ q
+  X = recordOf c links l ++ q
 
   abbrev f : ℕ → List ℕ
-  f k = fieldBytes c l (fieldOf k)
+  f k = fieldBytes c links l (fieldOf k)
 
   map-back : M ≡ mapIn X
   unfolding recordOf
   map-back =
-      sym (number-at 4 M (record { front = []; rest = fields c l ++ q; is = append-assoc (bytesOf 4 M) (fields c l) q; place = refl })
-      (lt-of-lt-of-le (map-small c l) (lit≤ tt)))
+      sym (number-at 4 M (record { front = []; rest = fields c links l ++ q; is = append-assoc (bytesOf 4 M) (fields c links l) q; place = refl })
+      (lt-of-lt-of-le (map-small c links l) (lit≤ tt)))
 
   -- the bytes of a bit that stands are where the reader looks for them
   field-at : (k : ℕ) → k < width → stands M k ≡ true → At X (offset M k) (f k)
@@ -123,13 +128,14 @@ module _ (s : Section) (l : Load) (q : List ℕ) where
             ∙ ap (λ (l : List ℕ). l ++ q) (sym (append-assoc B F (f k ++ o .0)))
             ∙ append-assoc (B ++ F) (f k ++ o .0) q
             ∙ ap (λ (l : List ℕ). (B ++ F) ++ l) (append-assoc (f k) (o .0) q);
-        place = length-append B F ∙ ap₂ (λ (a b : ℕ). a + b) (length-bytes 4 M) (length-fields M f (λ k. length-field c l (fieldOf k)) k);
+        place = length-append B F ∙ ap₂ (λ (a b : ℕ). a + b) (length-bytes 4 M) (length-fields M f (λ k. length-field c links l (fieldOf k)) k);
       }
 
   -- a number, written or omitted
   abbrev valueAt : Field → ℤ
   valueAt (Must x) = valueOf c l x
   valueAt (May x d) = valueOf c l x
+  valueAt LinkPair = pos 0
   valueAt (LayerAt j) = pos 0
   valueAt Unused = pos 0
 
@@ -146,15 +152,15 @@ module _ (s : Section) (l : Load) (q : List ℕ) where
   number-back : Carried s l → (k : ℕ) → numberOf X M k ≡ valueAt (fieldOf k)
   number-back ok k = go (fieldOf k) refl
     where
-      stands-as : (y : Field) → fieldOf k ≡ y → isNumber y ≡ true → (k < width) × (stands M k ≡ writes c l y)
+      stands-as : (y : Field) → fieldOf k ≡ y → isNumber y ≡ true → (k < width) × (stands M k ≡ writes c links l y)
       stands-as y e n =
           let h = within k (ap isNumber e ∙ n) in
-          (h, stands-written c l k h ∙ ap (writes c l) e)
+          (h, stands-written c links l k h ∙ ap (writes c links l) e)
 
       go : (y : Field) → fieldOf k ≡ y → readAs y k ≡ valueAt y
       go (Must x) e =
           let s = stands-as (Must x) e refl in
-          rw (s .1) (written-back k x ok (s .0) (s .1) (ap (fieldBytes c l) e))
+          rw (s .1) (written-back k x ok (s .0) (s .1) (ap (fieldBytes c links l) e))
       go (May x d) e = may (inRange d d (valueOf c l x)) refl
         where
           may : (t : Bool) → inRange d d (valueOf c l x) ≡ t → readAs (May x d) k ≡ valueOf c l x
@@ -163,20 +169,42 @@ module _ (s : Section) (l : Load) (q : List ℕ) where
               rw (s .1 ∙ ap not t) (only-one d (valueOf c l x) t)
           may false t =
               let s = stands-as (May x d) e refl in
-              rw (s .1 ∙ ap not t) (written-back k x ok (s .0) (s .1 ∙ ap not t) (ap (fieldBytes c l) e))
+              rw (s .1 ∙ ap not t) (written-back k x ok (s .0) (s .1 ∙ ap not t) (ap (fieldBytes c links l) e))
+      go LinkPair e = refl
       go (LayerAt j) e = refl
       go Unused e = refl
 
+  -- the links
+  link-stands : stands M linkBit ≡ not (absent links)
+  link-stands = stands-written c links l linkBit (omega arith)
+
+  links-back : Carried s l → linksIn X M ≡ links
+  links-back ok = go (absent (s .links)) refl
+    where
+      go : (t : Bool) → absent (s .links) ≡ t → linksIn X M ≡ links
+      go true e =
+          let none : stands M linkBit ≡ false = link-stands ∙ ap not (counted-absent (s .links) ∙ e) in
+          ap (λ (t : Bool). cond t (linksAt X (offset M linkBit)) noLinks) none ∙ sym (counted-none (s .links) e)
+      go false e =
+          let some : stands M linkBit ≡ true = link-stands ∙ ap not (counted-absent (s .links) ∙ e) in
+          let A = bytesOf 4 (links .area) in
+          let S = bytesOf 4 (links .spacing) in
+          let a = field-at linkBit (omega arith) some in
+          ap (λ (t : Bool). cond t (linksAt X (offset M linkBit)) noLinks) some
+          ∙ ap₂ linksWith (number-at 4 (links .area) (first A S a) (ok .link-area))
+          (number-at 4 (links .spacing) (second A S 4 (length-bytes 4 (links .area)) a) (ok .link-spacing))
+          ∙ ap (λ (k : Links). linksWith (k .area) (k .spacing)) (counted-some (s .links) e) ∙ sym (counted-some (s .links) e)
+
   -- the layers
   layer-stands : (j : ℕ) → j < 16 → stands M (layerBit j) ≡ ltb j (c .count)
-  layer-stands j h = stands-written c l (layerBit j) (omega arith) ∙ ap (writes c l) (layer-field j h)
+  layer-stands j h = stands-written c links l (layerBit j) (omega arith) ∙ ap (writes c links l) (layer-field j h)
 
   layer-back : (j : ℕ) → j < 16 → stands M (layerBit j) ≡ true → Carried s l → layerAt X (offset M (layerBit j)) ≡ getD (c .layers) j noLayer
   layer-back j h t ok =
       let y = getD (c .layers) j noLayer in
       let D = bytesOf 4 (y .depth) in
       let A = bytesOf 4 (y .area) in
-      let a = subst (λ (x : Field). At X (offset M (layerBit j)) (fieldBytes c l x)) (layer-field j h) (field-at (layerBit j) (omega arith) t) in
+      let a = subst (λ (x : Field). At X (offset M (layerBit j)) (fieldBytes c links l x)) (layer-field j h) (field-at (layerBit j) (omega arith) t) in
       ap₂ layerOf (number-at 4 (y .depth) (first D A a) (ok .layers j .depth))
       (number-at 4 (y .area) (second D A 4 (length-bytes 4 (y .depth)) a) (ok .layers j .area))
 
@@ -203,26 +231,28 @@ module _ (s : Section) (l : Load) (q : List ℕ) where
   fielded-back : (k : ℕ) → k ≤ width → fieldedTo M k ≡ true
   unfolding fieldedTo
   fielded-back zero h = refl
-  fielded-back (suc k) h = and-true (go (fieldOf k) (stands-written c l k h)) (fielded-back k (le-of-lt h))
+  fielded-back (suc k) h = and-true (go (fieldOf k) (stands-written c links l k h)) (fielded-back k (le-of-lt h))
     where
-      go : (y : Field) → stands M k ≡ writes c l y → hasField y || not (stands M k) ≡ true
+      go : (y : Field) → stands M k ≡ writes c links l y → hasField y || not (stands M k) ≡ true
       go (Must x) e = refl
       go (May x d) e = refl
+      go LinkPair e = refl
       go (LayerAt j) e = refl
       go Unused e = ap not e
 
   only-fields-back : onlyFields M ≡ true
   unfolding onlyFields
-  only-fields-back = and-true (eq-eqb (M / 2 ^ width) 0 (div-eq-of-lt (map-small c l))) (fielded-back width (le-refl width))
+  only-fields-back = and-true (eq-eqb (M / 2 ^ width) 0 (div-eq-of-lt (map-small c links l))) (fielded-back width (le-refl width))
 
   complete-to-back : (k : ℕ) → k ≤ width → completeTo M k ≡ true
   unfolding completeTo
   complete-to-back zero h = refl
-  complete-to-back (suc k) h = and-true (go (fieldOf k) (stands-written c l k h)) (complete-to-back k (le-of-lt h))
+  complete-to-back (suc k) h = and-true (go (fieldOf k) (stands-written c links l k h)) (complete-to-back k (le-of-lt h))
     where
-      go : (y : Field) → stands M k ≡ writes c l y → not (mustStand y) || stands M k ≡ true
+      go : (y : Field) → stands M k ≡ writes c links l y → not (mustStand y) || stands M k ≡ true
       go (Must x) e = e
       go (May x d) e = refl
+      go LinkPair e = refl
       go (LayerAt j) e = refl
       go Unused e = refl
 
@@ -231,7 +261,7 @@ module _ (s : Section) (l : Load) (q : List ℕ) where
   complete-back = complete-to-back width (le-refl width)
 
   long-enough : recordLength M ≤ length X
-  long-enough = omega (arith, length-record c l, length-append (recordOf c l) q)
+  long-enough = omega (arith, length-record c links l, length-append (recordOf c links l) q)
 
 -- ---- the section that is read: what is counted of it is what was written
 module _ (s : Section) (l : Load) (ok : Carried s l) where
@@ -250,10 +280,10 @@ module _ (s : Section) (l : Load) (ok : Carried s l) where
   unfolding sectionOf
   section-back q =
       let ls = layers-back s l q ok all-counted 16 (le-refl 16) ∙ take-all 16 (layersOf s) (omega (arith, all-counted, ok .few)) in
-      sym ((λ i. sectionWith (λ k. number-back s l q ok k i) (ls i)) ∙ ap (λ (n : ℕ). withCount n) all-counted)
+      sym ((λ i. sectionWith (λ k. number-back s l q ok k i) (links-back s l q ok i) (ls i)) ∙ ap (λ (n : ℕ). withCount n) all-counted)
     where
       withCount : ℕ → Section
-      withCount n = record { layers = filled (layersOf s); width = s .width; height = s .height; grade = s .grade; count = n }
+      withCount n = record { layers = filled (layersOf s); width = s .width; height = s .height; grade = s .grade; links = linksOf s; count = n }
 
   load-back : (q : List ℕ) → l ≡ loadOf (X s l q) (M s l q)
   unfolding loadOf
@@ -261,23 +291,25 @@ module _ (s : Section) (l : Load) (ok : Carried s l) where
 
 -- a record, and any bytes after it
 pub record-back : (s : Section) (l : Load) (q : List ℕ) → Machine s l → testsOf s l ≡ 0
-    → readBack s l (recordLength (mapOf (counted s) l)) ≡ readOf (recordOf (counted s) l ++ q)
+    → readBack s l (recordLength (mapOf (counted s) (linksOf s) l)) ≡ readOf (recordOf (counted s) (linksOf s) l ++ q)
 record-back s l q machine passed =
     let ok = carried s l machine passed in
     let m = M s l q in
     let xs = X s l q in
     let long = long-enough s l q in
-    let r = sym passed ∙ ap (λ (d : Counted). firstFailing (sectionTests d ++ loadTests l)) (sym (same-counted s l ok)) in
+    let r = sym passed
+    ∙ (λ i. firstFailing (sectionTests (sym (same-counted s l ok) i) ++ loadLinkTests (sym (counted-twice (s .links)) i) l)) in
     chosen xs true true true true 0 (map-back s l q) (section-back s l ok q) (load-back s l ok q)
     (sym (le-leb 4 (length xs) (omega arith))) (sym (only-fields-back s l q)) (sym (le-leb (recordLength m) (length xs) long)) (sym (complete-back s l q)) r
 
 -- the buffer of a write that was accepted, read afterwards
-round-trip : (s : Section) (l : Load) (buf : List ℕ) → Machine s l → (k : ℕ) → firstFailing (writeTests (counted s) l buf) ≡ k
-    → ReadsBack s l (writtenBy (recordLength (mapOf (counted s) l)) k) (changedBy (recordOf (counted s) l) buf k)
+round-trip : (s : Section) (l : Load) (buf : List ℕ) → Machine s l → (k : ℕ) → firstFailing (writeTests (counted s) (linksOf s) l buf) ≡ k
+    → ReadsBack s l (writtenBy (recordLength (mapOf (counted s) (linksOf s) l)) k) (changedBy (recordOf (counted s) (linksOf s) l) buf k)
 round-trip s l buf machine (suc k) e z = absurd (omega arith)
 round-trip s l buf machine zero e z =
     let c = counted s in
-    sym (record-back s l (drop (length (recordOf c l)) buf) machine (both-zero (testsOf s l) _ (sym (write-first c l buf) ∙ e) .0))
+    let links = linksOf s in
+    sym (record-back s l (drop (length (recordOf c links l)) buf) machine (both-zero (testsOf s l) _ (sym (write-first c links l buf) ∙ e) .0))
 
 written-refusal : (n k : ℕ) → writtenBy n k .refusal ≡ k
 written-refusal n zero = refl
@@ -285,16 +317,16 @@ written-refusal n (suc k) = refl
 
 -- the other clauses of `write` follow from its first two
 pub write-clauses : (s : Section) (l : Load) (buf : List ℕ) {r : Written} {after : List ℕ} → Machine s l
-    → r ≡ writtenOf (counted s) l buf → after ≡ bufferOf (counted s) l buf
-    → (r ≡ writtenOf (counted s) l buf)
-    × ((after ≡ bufferOf (counted s) l buf) × ((r .refusal ≡ firstFailing (writeTests (counted s) l buf)) × ReadsBack s l r after))
+    → r ≡ writtenOf (counted s) (linksOf s) l buf → after ≡ bufferOf (counted s) (linksOf s) l buf
+    → (r ≡ writtenOf (counted s) (linksOf s) l buf)
+    × ((after ≡ bufferOf (counted s) (linksOf s) l buf) × ((r .refusal ≡ firstFailing (writeTests (counted s) (linksOf s) l buf)) × ReadsBack s l r after))
 write-clauses s l buf machine e g =
-    let k = firstFailing (writeTests (counted s) l buf) in (
+    let k = firstFailing (writeTests (counted s) (linksOf s) l buf) in (
       e,
       (
         g,
         (
-          ap (λ (r : Written). r .refusal) e ∙ written-refusal (recordLength (mapOf (counted s) l)) k,
+          ap (λ (r : Written). r .refusal) e ∙ written-refusal (recordLength (mapOf (counted s) (linksOf s) l)) k,
           rw (e, g) (round-trip s l buf machine k refl),
         ),
       ),

@@ -9,18 +9,20 @@ use lib.ListN.{List·getD-eq-default}
 use Rattle.arith.proofs.Computed.{below}
 use Rattle.arith.proofs.Test.{clash}
 use Rattle.record.specs.declared.fields.Field.{Field}
-use Rattle.record.specs.declared.fields.Field.the-variants.{Must, May, LayerAt, Unused}
+use Rattle.record.specs.declared.fields.Field.the-variants.{Must, May, LinkPair, LayerAt, Unused}
 use Rattle.record.specs.Fields.{table, width, fieldOf, layerBit, isNumber}
 
 abbrev layerIs : Field → ℕ → Bool
 layerIs (Must x) j = false
 layerIs (May x d) j = false
+layerIs LinkPair j = false
 layerIs (LayerAt i) j = eqb i j
 layerIs Unused j = false
 
 is-layer : (f : Field) (j : ℕ) → T (layerIs f j) → f ≡ LayerAt j
 is-layer (Must x) j t = absurd t
 is-layer (May x d) j t = absurd t
+is-layer LinkPair j t = absurd t
 is-layer (LayerAt i) j t = ap LayerAt (eqb→eq i j t)
 is-layer Unused j t = absurd t
 

@@ -9,16 +9,16 @@ use native.Mathlib.Omega.{arith}
 use lib.Dec.{eqb, lit<, lit≤}
 use lib.ListN.{length, getD, length-append}
 use Rattle.section.specs.Section.{Counted, noLayer}
-use Rattle.section.specs.declared.Layer.{Layer}
+use Rattle.section.specs.declared.Links.{Links}
 use Rattle.section.specs.declared.Load.{Load}
 use Rattle.record.specs.declared.fields.Field.{Field}
-use Rattle.record.specs.declared.fields.Field.the-variants.{Must, May, LayerAt, Unused}
+use Rattle.record.specs.declared.fields.Field.the-variants.{Must, May, LinkPair, LayerAt, Unused}
 use Rattle.record.specs.Bytes.{bytesOf}
 use Rattle.record.specs.Map.{stands, standing, recordLength, mapWith}
 use Rattle.record.specs.Fields.{width, fieldOf}
-use Rattle.record.specs.Layout.{layerBytes, fieldBytes, writes, mapOf, fieldsTo, fields, recordOf}
+use Rattle.record.specs.Layout.{fieldBytes, writes, mapOf, fieldsTo, fields, recordOf}
 use Rattle.record.proofs.Bits.{map-below, map-stands, standing-below}
-use Rattle.record.proofs.Digits.{length-bytes, pair}
+use Rattle.record.proofs.Digits.{length-bytes}
 
 -- ---- the map
 module _ (p : ℕ → Bool) (k : ℕ) where
@@ -30,29 +30,26 @@ module _ (p : ℕ → Bool) (k : ℕ) where
   unfolding mapWith
   map-no t = ap (mapWith p) (add-one k) ∙ ap (λ (b : Bool). mapWith p k + cond b (2 ^ k) 0) t ∙ add-zero (mapWith p k)
 
-module _ (c : Counted) (l : Load) where
+module _ (c : Counted) (links : Links) (l : Load) where
   abbrev written : ℕ → Bool
-  written k = writes c l (fieldOf k)
+  written k = writes c links l (fieldOf k)
 
-  pub map-small : mapOf c l < 2 ^ width
+  pub map-small : mapOf c links l < 2 ^ width
   unfolding mapOf
   map-small = map-below written width
 
-  pub stands-written : (k : ℕ) → k < width → stands (mapOf c l) k ≡ writes c l (fieldOf k)
+  pub stands-written : (k : ℕ) → k < width → stands (mapOf c links l) k ≡ writes c links l (fieldOf k)
   unfolding mapOf
   stands-written k h = map-stands written width k h
 
 -- ---- the fields
 
--- a layer as one number
-pub layer-packed : {y z : Layer} → y ≡ z → y .area < 2 ^ 32 → bytesOf 8 (y .depth * 4294967296 + y .area) ≡ layerBytes z
-layer-packed {y} e h = pair 4 4 (y .depth) (y .area) h ∙ ap layerBytes e
-
-pub length-field : (c : Counted) (l : Load) (x : Field) → length (fieldBytes c l x) ≡ 8
-length-field c l (Must x) = length-bytes 8 _
-length-field c l (May x d) = length-bytes 8 _
-length-field c l (LayerAt j) = let y = getD (c .layers) j noLayer in simp (length-append, length-bytes)
-length-field c l Unused = length-bytes 8 0
+pub length-field : (c : Counted) (links : Links) (l : Load) (x : Field) → length (fieldBytes c links l x) ≡ 8
+length-field c links l (Must x) = length-bytes 8 _
+length-field c links l (May x d) = length-bytes 8 _
+length-field c links l LinkPair = simp (length-append, length-bytes)
+length-field c links l (LayerAt j) = let y = getD (c .layers) j noLayer in simp (length-append, length-bytes)
+length-field c links l Unused = length-bytes 8 0
 
 module _ (m : ℕ) (f : ℕ → List ℕ) where
   pub fields-yes : (k : ℕ) → stands m k ≡ true → fieldsTo m f (k + 1) ≡ fieldsTo m f k ++ f k
@@ -77,10 +74,10 @@ module _ (m : ℕ) (f : ℕ → List ℕ) where
       chosen (suc (suc d)) ys h e = absurd (omega arith)
 
 -- the length follows from the map
-pub length-record : (c : Counted) (l : Load) → length (recordOf c l) ≡ recordLength (mapOf c l)
+pub length-record : (c : Counted) (links : Links) (l : Load) → length (recordOf c links l) ≡ recordLength (mapOf c links l)
 unfolding recordOf fields
-length-record c l =
-    length-append (bytesOf 4 (mapOf c l)) (fieldsTo (mapOf c l) (λ k. fieldBytes c l (fieldOf k)) width)
-    ∙ ap₂ (λ (a b : ℕ). a + b) (length-bytes 4 (mapOf c l))
-    (length-fields (mapOf c l) (λ k. fieldBytes c l (fieldOf k)) (λ k. length-field c l (fieldOf k)) width
-    ∙ ap (λ (n : ℕ). 8 * n) (sym (standing-below (mapOf c l) width (lit≤ tt) (map-small c l))))
+length-record c links l =
+    length-append (bytesOf 4 (mapOf c links l)) (fieldsTo (mapOf c links l) (λ k. fieldBytes c links l (fieldOf k)) width)
+    ∙ ap₂ (λ (a b : ℕ). a + b) (length-bytes 4 (mapOf c links l))
+    (length-fields (mapOf c links l) (λ k. fieldBytes c links l (fieldOf k)) (λ k. length-field c links l (fieldOf k)) width
+    ∙ ap (λ (n : ℕ). 8 * n) (sym (standing-below (mapOf c links l) width (lit≤ tt) (map-small c links l))))

@@ -1,20 +1,28 @@
--- What a record holds: document 01, "The record". Of the bytes xs with the map m. Assumes nothing.
+-- What a record holds: document 01, "The record", and 02's ticket 3 for the links. Of the bytes xs with the map m. Assumes nothing.
 use Prim.Native.Nat.{ℕ, zero, suc, _+_, _-_}
 use mathlib.Core.Bool.{cond}
 use mathlib.Core.List.{List, [], _∷_, _++_}
 use lib.IntN.{ℤ, pos}
 use lib.ListN.{length, replicate}
-use Rattle.section.specs.Section.{noLayer}
+use Rattle.section.specs.Section.{noLayer, noLinks, linksWith}
 use Rattle.section.specs.declared.Layer.{Layer}
+use Rattle.section.specs.declared.Links.{Links}
 use Rattle.section.specs.declared.Section.{Section}
 use Rattle.section.specs.declared.Load.{Load}
 use Rattle.record.specs.Bytes.{numberAt, signed}
 use Rattle.record.specs.Map.{stands, offset}
-use Rattle.record.specs.Fields.{fieldOf, layerBit, isNumber, missing}
+use Rattle.record.specs.Fields.{fieldOf, linkBit, layerBit, isNumber, missing}
 
 -- the number of bit k, where its field is one: eight bytes, signed. One that is missing is what the table says; a present one is read.
 abbrev pub numberOf : List ℕ → ℕ → ℕ → ℤ
 numberOf xs m k = cond (isNumber (fieldOf k)) (cond (stands m k) (signed (numberAt xs (offset m k) 8)) (missing (fieldOf k))) (pos 0)
+
+-- links: an unsigned 4-byte area and then 4-byte spacing; present where bit 7 stands
+abbrev pub linksAt : List ℕ → ℕ → Links
+linksAt xs at = linksWith (numberAt xs at 4) (numberAt xs (at + 4) 4)
+
+abbrev pub linksIn : List ℕ → ℕ → Links
+linksIn xs m = cond (stands m linkBit) (linksAt xs (offset m linkBit)) noLinks
 
 -- a layer: an unsigned 4-byte depth and then 4-byte area
 abbrev pub layerAt : List ℕ → ℕ → Layer
@@ -33,15 +41,22 @@ unfoldable pub filled : List Layer → List Layer
 filled ls = ls ++ replicate (16 - length ls) noLayer
 
 -- Bits 0 to 6: b, h, fck, fyk, N, M, V. A section and a load with the numbers of their bits.
-abbrev pub sectionWith : (ℕ → ℤ) → List Layer → Section
-sectionWith number ls =
-    record { layers = filled ls; width = number 0; height = number 1; grade = record { fck = number 2; fyk = number 3 }; count = length ls }
+abbrev pub sectionWith : (ℕ → ℤ) → Links → List Layer → Section
+sectionWith number links ls =
+    record {
+      layers = filled ls;
+      width = number 0;
+      height = number 1;
+      grade = record { fck = number 2; fyk = number 3 };
+      links = links;
+      count = length ls;
+    }
 
 abbrev pub loadWith : (ℕ → ℤ) → Load
 loadWith number = record { n = number 4; m = number 5; v = number 6 }
 
 unfoldable pub sectionOf : List ℕ → ℕ → Section
-sectionOf xs m = sectionWith (numberOf xs m) (layersIn xs m)
+sectionOf xs m = sectionWith (numberOf xs m) (linksIn xs m) (layersIn xs m)
 
 unfoldable pub loadOf : List ℕ → ℕ → Load
 loadOf xs m = loadWith (numberOf xs m)

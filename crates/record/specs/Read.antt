@@ -6,6 +6,7 @@ use mathlib.Core.Path.{_≡_}
 use lib.IntN.{pos}
 use lib.ListN.{take}
 use Rattle.arith.specs.Chain.{firstFailing}
+use Rattle.section.specs.Section.{noLinks}
 use Rattle.section.specs.declared.Section.{Section}
 use Rattle.section.specs.declared.Load.{Load}
 use Rattle.record.specs.declared.Reading.{Reading}
@@ -15,7 +16,7 @@ use Rattle.record.specs.Refusals.{mapIn, readTests, namesLength}
 
 -- a refusal, with the length that it names, and zeros
 unfoldable pub refusedReading : ℕ → ℕ → Reading
-refusedReading k n = record { refusal = k; length = n; section = sectionWith (λ bit. pos 0) []; load = loadWith (λ bit. pos 0) }
+refusedReading k n = record { refusal = k; length = n; section = sectionWith (λ bit. pos 0) noLinks []; load = loadWith (λ bit. pos 0) }
 
 -- what is answered of a record of n bytes, by the first test that fails, 0 for none
 abbrev pub readingBy : ℕ → Section → Load → ℕ → Reading

@@ -1,8 +1,8 @@
--- What reading back a written record yields, demand 2: document 01, "What the engine covers" and "The record". Assumes nothing.
+-- What reading back a written record yields, demand 2: document 01, "What the engine covers" and "The record"; 02's ticket 3. Assumes nothing.
 use Prim.Native.Nat.{ℕ}
 use mathlib.Core.List.{List}
 use mathlib.Core.Path.{_≡_}
-use Rattle.section.specs.Section.{layersOf}
+use Rattle.section.specs.Section.{layersOf, linksOf}
 use Rattle.section.specs.declared.Section.{Section}
 use Rattle.section.specs.declared.Load.{Load}
 use Rattle.record.specs.declared.Reading.{Reading}
@@ -10,9 +10,10 @@ use Rattle.record.specs.declared.Written.{Written}
 use Rattle.record.specs.Contents.{filled}
 use Rattle.record.specs.Read.{readOf}
 
--- the same section, its counted layers in the same sequence, with zeros beyond the count
+-- the same section, its counted layers in the same sequence, with zeros beyond the count; the same links, absent ones with zeros
 abbrev pub cleared : Section → Section
-cleared s = record { layers = filled (layersOf s); width = s .width; height = s .height; grade = s .grade; count = s .count }
+cleared s =
+    record { layers = filled (layersOf s); width = s .width; height = s .height; grade = s .grade; links = linksOf s; count = s .count }
 
 -- no refusal, the length n, that section and the same load
 abbrev pub readBack : Section → Load → ℕ → Reading

@@ -4,6 +4,7 @@ use mathlib.Core.List.{List, _++_}
 use lib.ListN.{length, drop}
 use Rattle.arith.specs.Chain.{firstFailing}
 use Rattle.section.specs.Section.{Counted}
+use Rattle.section.specs.declared.Links.{Links}
 use Rattle.section.specs.declared.Load.{Load}
 use Rattle.record.specs.declared.Written.{Written}
 use Rattle.record.specs.Map.{recordLength}
@@ -20,8 +21,8 @@ abbrev pub changedBy : List ℕ → List ℕ → ℕ → List ℕ
 changedBy bytes buf zero = bytes ++ drop (length bytes) buf
 changedBy bytes buf (suc k) = buf
 
-abbrev pub writtenOf : Counted → Load → List ℕ → Written
-writtenOf c l buf = writtenBy (recordLength (mapOf c l)) (firstFailing (writeTests c l buf))
+abbrev pub writtenOf : Counted → Links → Load → List ℕ → Written
+writtenOf c links l buf = writtenBy (recordLength (mapOf c links l)) (firstFailing (writeTests c links l buf))
 
-abbrev pub bufferOf : Counted → Load → List ℕ → List ℕ
-bufferOf c l buf = changedBy (recordOf c l) buf (firstFailing (writeTests c l buf))
+abbrev pub bufferOf : Counted → Links → Load → List ℕ → List ℕ
+bufferOf c links l buf = changedBy (recordOf c links l) buf (firstFailing (writeTests c links l buf))

@@ -19,6 +19,8 @@ pub enum Field {
     Must(Number),
     // A number that may be missing, and what it is then: the writer omits it when it is that.
     May(Number, i64),
+    // The links: a 4-byte area and a 4-byte spacing.
+    LinkPair,
     // The layer at a place, from 0: a 4-byte depth and a 4-byte area.
     LayerAt(usize),
     // No field.
@@ -27,6 +29,9 @@ pub enum Field {
 
 // How many bits the table names: none from here on has a field.
 pub const WIDTH: u32 = 24;
+
+// The bit of the links.
+pub const LINKS: u32 = 7;
 
 // What stands at one of the bits below the layers.
 fn low_field(k: u32) -> Field
@@ -41,7 +46,7 @@ fn low_field(k: u32) -> Field
         4 => Field::May(Number::Axial, 0),
         5 => Field::May(Number::Moment, 0),
         6 => Field::May(Number::Shear, 0),
-        _ => Field::Unused,
+        _ => Field::LinkPair,
     }
 }
 
@@ -65,6 +70,7 @@ pub fn missing_value(f: Field) -> i64
     match f {
         Field::Must(_) => 0,
         Field::May(_, d) => d,
+        Field::LinkPair => 0,
         Field::LayerAt(_) => 0,
         Field::Unused => 0,
     }

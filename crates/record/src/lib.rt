@@ -3,7 +3,6 @@ mod bytes;
 mod fields;
 mod map;
 pub mod reader;
-mod refusals;
 pub mod writer;
 
 use section::Load;

@@ -2,6 +2,7 @@
 use super::Reading;
 use super::bytes::big_endian;
 use super::bytes::to_signed;
+use super::fields::LINKS;
 use super::fields::field_of;
 use super::fields::missing_value;
 use super::map::bit_stands;
@@ -9,21 +10,21 @@ use super::map::field_offset;
 use super::map::is_complete;
 use super::map::only_fields;
 use super::map::record_length;
-use super::refusals::first_of;
 use materials::Grade;
 use section::Layer;
+use section::Links;
 use section::Load;
 use section::Section;
-use section::refusals::load_refusal;
-use section::refusals::section_refusal;
+use section::refusals::record_refusal;
 ghost use mathlib.Core.Bool.{true};
 ghost use mathlib.Core.Path.{_≡_};
 ghost use Prim.Native.Nat.{_+_, _<_, _≤_};
 ghost use lib.ListN.{length};
 ghost use Rattle.arith.specs.Chain.{firstFailing};
 ghost use Rattle.record.specs.Fields.{fieldOf, isNumber};
+ghost use Rattle.record.specs.Bytes.{numberAt};
 ghost use Rattle.record.specs.Map.{recordLength};
-ghost use Rattle.record.specs.Contents.{numberOf, layerAt, layersIn, filled, sectionOf, loadOf};
+ghost use Rattle.record.specs.Contents.{numberOf, linksIn, layerAt, layersIn, filled, sectionOf, loadOf};
 ghost use Rattle.record.specs.Refusals.{readTests};
 ghost use Rattle.record.specs.Read.{refusedReading, readOf, RestIgnored};
 
@@ -40,14 +41,57 @@ fn number(s: &[u8], map: u32, k: u32) -> i64
     }
 }
 
+// Two numbers of four bytes each.
+struct Pair {
+    first: u32,
+    second: u32,
+}
+
+// Those that begin at `at`.
+fn pair_at(s: &[u8], at: usize) -> Pair
+    requires { ⌜ at + 8 ≤ length (now s) ⌝ }
+    ensures { λ r. ⌜ (r .first ≡ numberAt (now (s .entry)) at 4) × (r .second ≡ numberAt (now (s .entry)) (at + 4) 4) ⌝ }
+{
+    let x = big_endian(s, at, 4) as u32;
+    let y = big_endian(s, at + 4, 4) as u32;
+    Pair {
+        first: x,
+        second: y,
+    }
+}
+
+// The links, present where their bit stands: their area comes before their spacing.
+fn links_of(s: &[u8], map: u32) -> Links
+    requires { ⌜ recordLength map ≤ length (now s) ⌝ }
+    ensures { λ r. ⌜ r ≡ linksIn (now (s .entry)) map ⌝ }
+{
+    if bit_stands(map, LINKS) {
+        let at = field_offset(map, LINKS);
+        let p = pair_at(s, at);
+        Links {
+            present: 1,
+            area: p.first,
+            spacing: p.second,
+        }
+    } else {
+        Links {
+            present: 0,
+            area: 0,
+            spacing: 0,
+        }
+    }
+}
+
 // The layer whose eight bytes begin at `at`.
 fn layer(s: &[u8], at: usize) -> Layer
     requires { ⌜ at + 8 ≤ length (now s) ⌝ }
     ensures { λ r. ⌜ r ≡ layerAt (now (s .entry)) at ⌝ }
 {
-    let d = big_endian(s, at, 4) as u32;
-    let a = big_endian(s, at + 4, 4) as u32;
-    Layer { depth: d, area: a }
+    let p = pair_at(s, at);
+    Layer {
+        depth: p.first,
+        area: p.second,
+    }
 }
 
 // The layers of a record, with zeros beyond them.
@@ -93,6 +137,7 @@ fn section_of(s: &[u8], map: u32) -> Section
             fck: number(s, map, 2),
             fyk: number(s, map, 3),
         },
+        links: links_of(s, map),
         count: l.count,
     }
 }
@@ -118,6 +163,11 @@ fn refuse(number: u64, bytes: usize) -> Reading
         width: 0,
         height: 0,
         grade: Grade { fck: 0, fyk: 0 },
+        links: Links {
+            present: 0,
+            area: 0,
+            spacing: 0,
+        },
         count: 0,
     };
     let load = Load { n: 0, m: 0, v: 0 };
@@ -129,7 +179,7 @@ fn refuse(number: u64, bytes: usize) -> Reading
     }
 }
 
-// The record that the bytes begin with, or why there is none: 20, 21, 22, 23, then the section tests and the load tests.
+// The record that the bytes begin with, or why there is none: 20, 21, 22, 23, then the section tests, the load tests and those of the links.
 pub fn read(bytes: &[u8]) -> Reading
     ensures { λ r. ⌜ r ≡ readOf (now (bytes .entry)) ⌝ }
     ensures refusal { λ r. ⌜ r .refusal ≡ firstFailing (readTests (now (bytes .entry))) ⌝ }
@@ -151,7 +201,7 @@ pub fn read(bytes: &[u8]) -> Reading
     }
     let section = section_of(bytes, map);
     let load = load_of(bytes, map);
-    let k = first_of(section_refusal(section), load_refusal(load));
+    let k = record_refusal(section, load);
     if k != 0 {
         return refuse(k as u64, length);
     }

@@ -4,3 +4,4 @@ pub mod Usable
 pub mod Turned
 pub mod InColumns
 pub mod Opened
+pub mod CountedLinks

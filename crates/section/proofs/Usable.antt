@@ -1,7 +1,7 @@
 -- The promise of the section tests, and what a section and a load that pass are: here the promise of the materials comes in.
 -- Assumes nothing.
 use Prim.Native.Nat.{ℕ, zero, suc, _≤_}
-use mathlib.Core.Bool.{true, _&&_}
+use mathlib.Core.Bool.{Bool, true, false, _&&_, _||_}
 use mathlib.Core.List.{List, [], _∷_, _++_}
 use mathlib.Core.Path.{_≡_, refl, sym, ap, subst, _∙_}
 use native.Mathlib.Omega.{arith}
@@ -13,7 +13,7 @@ use Rattle.arith.specs.Chain.{firstFailing, OneOf}
 use Rattle.arith.specs.Integer.{inRange}
 use Rattle.arith.proofs.Chain.{first-of, or-first, both-zero, test-passed, above-zero, among, some-one-of, test-one-of, first-one-of}
 use Rattle.arith.proofs.Range.{natural, symmetric}
-use Rattle.arith.proofs.Test.{both-true}
+use Rattle.arith.proofs.Test.{both-true, clash}
 use Rattle.materials.specs.Answer as materials
 use Rattle.materials.proofs.Promise.{promise}
 use Rattle.materials.specs.declared.Answer.{Answer}
@@ -22,16 +22,17 @@ use Rattle.materials.specs.declared.Grade.{Grade}
 use Rattle.materials.specs.declared.Materials.{Materials}
 use Rattle.section.specs.declared.Layer.{Layer}
 use Rattle.section.specs.declared.Section.{Section}
+use Rattle.section.specs.declared.Links.{Links}
 use Rattle.section.specs.declared.Load.{Load}
 use Rattle.section.specs.declared.Design.{Design}
 use Rattle.section.specs.declared.Accepted.{Accepted}
 use Rattle.section.specs.declared.Accepted.the-variants.{Ready, Refused}
-use Rattle.section.specs.Section.{layersOf, Counted, counted, all, depthOk, areaOk}
+use Rattle.section.specs.Section.{layersOf, Counted, counted, all, depthOk, areaOk, absent, linkAreaOk, linkSpacingOk}
 use Rattle.section.specs.Load.{forceOk, momentOk}
 use Rattle.section.specs.Refusals.{layerTests, sectionTests, sectionRefusals, designOf, acceptedAs}
-use Rattle.section.specs.Refusals.{accepted, refusalNumber, loadTests, loadRefusals, answer}
+use Rattle.section.specs.Refusals.{accepted, refusalNumber, loadTests, linkTests, loadLinkTests, loadLinkRefusals, answer}
 use Rattle.section.specs.Code.Columns.{layersIn, inColumns}
-use Rattle.section.specs.Code.Usable.{Bounded, Usable, LayerOk, SectionPromise, PromisedSection, LoadOk}
+use Rattle.section.specs.Code.Usable.{Bounded, Usable, LayerOk, SectionPromise, PromisedSection, LoadOk, LinksOk}
 use Rattle.section.proofs.OneLayer.{layer-high, layer-ok}
 use Rattle.section.proofs.Walk.{all-at}
 
@@ -214,27 +215,73 @@ load-ok l e =
     let v = test-passed 10 (forceOk (l .v)) 0 (lit≤ tt) (m .1) in
     record { n-in = symmetric 500000000 (l .n) (n .0); m-in = symmetric 1000000000000 (l .m) (m .0); v-in = symmetric 500000000 (l .v) (v .0) }
 
--- the numbers that the load tests have
-pub load-one-of : (l : Load) → OneOf (0 ∷ loadRefusals) (firstFailing (loadTests l))
-load-one-of l =
+-- ---- links that passed
+
+-- where links are present, their tests ask for what stands after the "or"
+or-present : {a t : Bool} → a || t ≡ true → a ≡ false → t ≡ true
+or-present {a = true} h e = absurd (clash refl e)
+or-present {a = false} h e = h
+
+is-zero : (z : ℤ) → inRange (pos 0) (pos 0) z ≡ true → z ≡ pos 0
+is-zero z e =
+    let w = natural 0 0 z e in
+    let none : natAbs z ≡ 0 = omega (arith, w .high) in
+    w .is ∙ ap pos none
+
+pub links-ok : (k : Links) (l : Load) → firstFailing (linkTests k l) ≡ 0 → LinksOk k l
+links-ok k l e =
+    let a = test-passed 27 (absent k || linkAreaOk k) _ (lit≤ tt) e in
+    let s = test-passed 28 (absent k || linkSpacingOk k) _ (lit≤ tt) (a .1) in
+    let n = test-passed 29 (absent k || inRange (pos 0) (pos 0) (l .n)) 0 (lit≤ tt) (s .1) in
+    record {
+      ranges = λ h.
+          let area = both-true (leb 1 (k .area)) (leb (k .area) 5000) (or-present (a .0) h) in
+          let spacing = both-true (leb 25 (k .spacing)) (leb (k .spacing) 1000) (or-present (s .0) h) in
+          record {
+            area-low = leb-true _ _ (area .0);
+            area-high = leb-true _ _ (area .1);
+            spacing-low = leb-true _ _ (spacing .0);
+            spacing-high = leb-true _ _ (spacing .1);
+          };
+      no-axial = λ h. is-zero (l .n) (or-present (n .0) h);
+    }
+
+-- the numbers that the tests of load and links have
+pub load-link-one-of : (k : Links) (l : Load) → OneOf (0 ∷ loadLinkRefusals) (firstFailing (loadLinkTests k l))
+load-link-one-of k l =
     test-one-of 8 (forceOk (l .n)) (record { member = tt }) (
     test-one-of 9 (momentOk (l .m)) (record { member = tt }) (
-    test-one-of 10 (forceOk (l .v)) (record { member = tt }) (record { member = tt })))
+    test-one-of 10 (forceOk (l .v)) (record { member = tt }) (
+    test-one-of 27 (absent k || linkAreaOk k) (record { member = tt }) (
+    test-one-of 28 (absent k || linkSpacingOk k) (record { member = tt }) (
+    test-one-of 29 (absent k || inRange (pos 0) (pos 0) (l .n)) (record { member = tt }) (record { member = tt }))))))
 
--- a section and a load that passed all their tests
-pub record AllPassed (c : Counted) (l : Load) : Type 0 where
+-- both passed
+pub record LoadLinksOk (k : Links) (l : Load) : Type 0 where
+  pub load : LoadOk l
+  pub links : LinksOk k l
+
+pub load-links-ok : (k : Links) (l : Load) → firstFailing (loadLinkTests k l) ≡ 0 → LoadLinksOk k l
+load-links-ok k l e =
+    let both = both-zero (firstFailing (loadTests l)) (firstFailing (linkTests k l)) (sym (first-of (loadTests l) (linkTests k l)) ∙ e) in
+    record { load = load-ok l (both .0); links = links-ok k l (both .1) }
+
+-- a section, a load and links that passed all their tests
+pub record AllPassed (c : Counted) (k : Links) (l : Load) : Type 0 where
   pub design : Design
   pub section : SectionPromise c design
-  pub load : LoadOk l
+  pub loaded : LoadLinksOk k l
 
-passed-by : (c : Counted) (l : Load) (a : Accepted) → PromisedSection c a → refusalNumber a ≡ 0 → firstFailing (loadTests l) ≡ 0 → AllPassed c l
-passed-by c l (Ready x) p z e = record { design = x; section = p; load = load-ok l e }
-passed-by c l (Refused k) p z e = absurd (omega (arith, above-zero sectionRefusals tt p))
+passed-by : (c : Counted) (k : Links) (l : Load) (a : Accepted) → PromisedSection c a → refusalNumber a ≡ 0 → firstFailing (loadLinkTests k l) ≡ 0
+    → AllPassed c k l
+passed-by c k l (Ready x) p z e = record { design = x; section = p; loaded = load-links-ok k l e }
+passed-by c k l (Refused j) p z e = absurd (omega (arith, above-zero sectionRefusals tt p))
 
-pub all-passed : (s : Section) (l : Load) → firstFailing (sectionTests (counted s) ++ loadTests l) ≡ 0 → AllPassed (counted s) l
-all-passed s l e =
-    let both = both-zero (firstFailing (sectionTests (counted s))) (firstFailing (loadTests l)) (sym (first-of (sectionTests (counted s)) (loadTests l)) ∙ e) in
-    passed-by (counted s) l (accepted (counted s)) (section-promise s) (section-refusal (counted s) ∙ both .0) (both .1)
+pub all-passed : (s : Section) (k : Links) (l : Load) → firstFailing (sectionTests (counted s) ++ loadLinkTests k l) ≡ 0 → AllPassed (counted s) k l
+all-passed s k l e =
+    let tests = sectionTests (counted s) in
+    let both = both-zero (firstFailing tests) (firstFailing (loadLinkTests k l)) (sym (first-of tests (loadLinkTests k l)) ∙ e) in
+    passed-by (counted s) k l (accepted (counted s)) (section-promise s) (section-refusal (counted s) ∙ both .0) (both .1)
 
 -- ---- one layer, and what is left after it
 

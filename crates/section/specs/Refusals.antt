@@ -1,9 +1,9 @@
--- When a call is turned down: document 01. A call's sequence of tests is a list, in 01's order; the first that fails gives the refusal.
--- Here stand the tests of a section and of a load, of which the sequences are made. The sequences of Find a depth and Moment at a depth
+-- When a call is turned down: document 01, and 02's ticket 3 for the links. A call's sequence of tests is a list, in 01's order; the first that fails gives the refusal.
+-- Here stand the tests of a section, of a load and of links, of which the sequences are made. The sequences of Find a depth and Moment at a depth
 -- are on the page `Refusals` of the equilibrium, Check's on that of the clauses, those of Read a record and Write a record on that of
 -- the records. Assumes nothing.
 use Prim.Native.Nat.{ℕ, zero, suc}
-use mathlib.Core.Bool.{_&&_}
+use mathlib.Core.Bool.{_&&_, _||_}
 use mathlib.Core.List.{List, [], _∷_, _++_}
 use lib.Dec.{leb}
 use lib.IntN.{pos, natAbs}
@@ -15,11 +15,12 @@ use Rattle.materials.specs.declared.Answer.the-variants.{Known}
 use Rattle.materials.specs.declared.Answer.the-variants as refusedMaterials
 use Rattle.materials.specs.declared.Materials.{Materials}
 use Rattle.section.specs.declared.Layer.{Layer}
+use Rattle.section.specs.declared.Links.{Links}
 use Rattle.section.specs.declared.Load.{Load}
 use Rattle.section.specs.declared.Design.{Design}
 use Rattle.section.specs.declared.Accepted.{Accepted}
 use Rattle.section.specs.declared.Accepted.the-variants.{Ready, Refused}
-use Rattle.section.specs.Section.{Counted, all, depthOk, areaOk}
+use Rattle.section.specs.Section.{Counted, all, depthOk, areaOk, absent, linkAreaOk, linkSpacingOk}
 use Rattle.section.specs.Load.{forceOk, momentOk}
 
 -- ---- the section tests, part of every call that takes a section
@@ -82,6 +83,29 @@ loadTests l =
 -- the numbers that the load tests have
 abbrev pub loadRefusals : List ℕ
 loadRefusals = 8 ∷ 9 ∷ 10 ∷ []
+
+-- ---- the tests of the links, directly after those of the load: 02's ticket 3
+
+abbrev pub linkTests : Links → Load → List ℕ
+linkTests k l =
+    -- 27 the area of links that are present
+    test 27 (absent k || linkAreaOk k)
+    -- 28 their spacing
+    ∷ test 28 (absent k || linkSpacingOk k)
+    -- 29 links present and N not 0
+    ∷ test 29 (absent k || inRange (pos 0) (pos 0) (l .n))
+    ∷ []
+
+-- the numbers that they have
+abbrev pub linkRefusals : List ℕ
+linkRefusals = 27 ∷ 28 ∷ 29 ∷ []
+
+-- 8 9 10 and 27 28 29: what Check, Read a record and Write a record ask after the section tests
+abbrev pub loadLinkTests : Links → Load → List ℕ
+loadLinkTests k l = loadTests l ++ linkTests k l
+
+abbrev pub loadLinkRefusals : List ℕ
+loadLinkRefusals = loadRefusals ++ linkRefusals
 
 -- ---- a call
 

@@ -1,5 +1,5 @@
 // A section of reinforced concrete and its load, and the tests that they pass before anything is computed: document 01, "What the
-// engine covers" and "When a call is turned down".
+// engine covers" and "When a call is turned down"; the links by 02's ticket 3.
 pub mod columns;
 pub mod refusals;
 
@@ -13,6 +13,15 @@ pub struct Layer {
     pub area: u32,
 }
 
+// Vertical links: the area of all their legs in mm², and their spacing along the member in mm. They are present or absent as a whole: 0 is
+// absent, any other number present. C is given no truth value. The numbers of absent links are never read.
+#[repr(C)]
+pub struct Links {
+    pub present: u64,
+    pub area: u32,
+    pub spacing: u32,
+}
+
 // What a record can carry. Of `layers` only the first `count` places are read. They stand first in memory, where a copy of the
 // section by value is read back without a wait.
 #[repr(C)]
@@ -21,6 +30,7 @@ pub struct Section {
     pub width: i64,
     pub height: i64,
     pub grade: Grade,
+    pub links: Links,
     pub count: usize,
 }
 

@@ -1,19 +1,21 @@
-// The section tests and the load tests: document 01, "When a call is turned down".
+// The section tests, the load tests and those of the links: document 01, "When a call is turned down", and 02's ticket 3.
 use super::Accepted;
 use super::Design;
 use super::Layer;
+use super::Links;
 use super::Load;
 use super::Section;
 use super::columns;
 use materials::Answer;
 use materials::Grade;
+ghost use mathlib.Core.List.{_++_};
 ghost use mathlib.Core.Path.{_≡_};
 ghost use Prim.Native.Nat.{_<_, _≤_};
 ghost use lib.ListN.{getD, take};
-ghost use Rattle.arith.specs.Chain.{firstFailing};
-ghost use Rattle.section.specs.Section.{layersOf, counted, noLayer, all, depthOk, areaOk};
+ghost use Rattle.arith.specs.Chain.{orElse, firstFailing};
+ghost use Rattle.section.specs.Section.{layersOf, counted, noLayer, all, depthOk, areaOk, countedLinks, linksOf, linkAreaOk, linkSpacingOk};
 ghost use Rattle.section.specs.Load.{forceOk};
-ghost use Rattle.section.specs.Refusals.{layerTests, sectionTests, loadTests, accepted, refusalNumber};
+ghost use Rattle.section.specs.Refusals.{layerTests, sectionTests, loadTests, linkTests, loadLinkTests, accepted, refusalNumber};
 ghost use Rattle.section.specs.Code.Usable.{PromisedSection};
 ghost use Rattle.section.specs.Code.Columns.{layersIn, inColumns};
 
@@ -132,7 +134,7 @@ pub fn force_ok(n: i64) -> bool
 }
 
 // The load tests, or 0.
-pub fn load_refusal(l: Load) -> u8
+fn load_refusal(l: Load) -> u8
     ensures { λ r. ⌜ r ≡ firstFailing (loadTests l) ⌝ }
 {
     if !force_ok(l.n) {
@@ -147,8 +149,72 @@ pub fn load_refusal(l: Load) -> u8
     0
 }
 
-// The section tests, or 0: what a record of this section meets.
-pub fn section_refusal(s: Section) -> u8
+// The links as they count: those that are present, or none.
+pub fn counted_links(k: Links) -> Links
+    ensures { λ r. ⌜ r ≡ countedLinks k ⌝ }
+{
+    if k.present == 0 {
+        Links {
+            present: 0,
+            area: 0,
+            spacing: 0,
+        }
+    } else {
+        Links {
+            present: 1,
+            area: k.area,
+            spacing: k.spacing,
+        }
+    }
+}
+
+fn link_area_ok(k: Links) -> bool
+    ensures { λ r. ⌜ r ≡ linkAreaOk k ⌝ }
+{
+    arith::both(1 <= k.area, k.area <= 5000)
+}
+
+fn link_spacing_ok(k: Links) -> bool
+    ensures { λ r. ⌜ r ≡ linkSpacingOk k ⌝ }
+{
+    arith::both(25 <= k.spacing, k.spacing <= 1000)
+}
+
+// The tests of the links, or 0.
+fn link_refusal(k: Links, l: Load) -> u8
+    ensures { λ r. ⌜ r ≡ firstFailing (linkTests k l) ⌝ }
+{
+    if k.present == 0 {
+        return 0;
+    }
+    if !link_area_ok(k) {
+        return 27;
+    }
+    if !link_spacing_ok(k) {
+        return 28;
+    }
+    if !arith::in_range(0, 0, l.n) {
+        return 29;
+    }
+    0
+}
+
+// The first of two refusals, 0 where there is none.
+fn first_of(k: u8, j: u8) -> u8
+    ensures { λ r. ⌜ r ≡ orElse k j ⌝ }
+{
+    if k == 0 { j } else { k }
+}
+
+// The load tests and then those of the links, or 0: what Check, Read a record and Write a record ask.
+pub fn load_link_refusal(k: Links, l: Load) -> u8
+    ensures { λ r. ⌜ r ≡ firstFailing (loadLinkTests k l) ⌝ }
+{
+    first_of(load_refusal(l), link_refusal(k, l))
+}
+
+// The section tests, or 0.
+fn section_refusal(s: Section) -> u8
     ensures { λ r. ⌜ r ≡ firstFailing (sectionTests (counted s)) ⌝ }
 {
     let layers = s.layers;
@@ -161,4 +227,12 @@ pub fn section_refusal(s: Section) -> u8
         Accepted::Refused(k) => k,
         Accepted::Ready(_) => 0,
     }
+}
+
+// All that a record asks of a section, its links and a load, or 0: the section tests, the load tests, those of the links.
+pub fn record_refusal(s: Section, l: Load) -> u8
+    ensures { λ r. ⌜ r ≡ firstFailing (sectionTests (counted s) ++ loadLinkTests (linksOf s) l) ⌝ }
+{
+    let links = counted_links(s.links);
+    first_of(section_refusal(s), load_link_refusal(links, l))
 }

@@ -5,10 +5,11 @@ use mathlib.Core.List.{List}
 use mathlib.Core.Path.{_≡_}
 use lib.ListN.{length}
 use Rattle.section.specs.declared.Layer.{Layer}
+use Rattle.section.specs.declared.Links.{Links}
 use Rattle.section.specs.declared.Load.{Load}
 use Rattle.section.specs.declared.Design.{Design}
 use Rattle.section.specs.Section.{all, depthOk, areaOk}
-use Rattle.section.specs.Code.Usable.{LoadOk}
+use Rattle.section.specs.Code.Usable.{LoadOk, LinksOk}
 use Rattle.equilibrium.specs.Code.Whole.{Trial}
 
 -- n counted layers, which passed the section tests, the test of depths with the greatest height
@@ -26,8 +27,9 @@ pub record LeastBounds (T fyk b As dm : ℕ) : Type 0 where
   pub As-high : As ≤ 320000
   pub dm-high : dm ≤ 1999
 
--- both faces of an accepted section, which see its layers as `top` and `bottom`, under a load that passed its tests
-pub record Faces (x : Design) (n : ℕ) (top bottom : List Layer) (steel : ℕ) (load : Load) : Type 0 where
+-- both faces of an accepted section, which see its layers as `top` and `bottom`, with links and under a load that passed their tests
+pub record Faces (x : Design) (n : ℕ) (top bottom : List Layer) (steel : ℕ) (k : Links) (load : Load) : Type 0 where
   pub of-top : Trial x n top steel (load .n)
   pub of-bottom : Trial x n bottom steel (load .n)
   pub loaded : LoadOk load
+  pub linked : LinksOk k load

@@ -24,7 +24,7 @@ refused-listed-requires c κs = search needs
 put-line-requires : tie.Need-put-line-requires
 put-line-requires c κs =
     let t = c .before .before in
-    let most : length (line 0 (c .refused-listed .result)) ≤ 45 = rw (c .refused-listed .ensures) (refused-line 0 26 (lit< tt) (lit< tt)) in
+    let most : length (line 0 (c .refused-listed .result)) ≤ 47 = rw (c .refused-listed .ensures) (refused-line 0 26 (lit< tt) (lit< tt)) in
     omega (arith, leb-true (roomFor 0) (length (now (t .before .before .before .args .out))) (sym (t .before .long-enough .ensures) ∙ t .if1 .taken))
 
 same-length : tie.Need-same-length

@@ -12,7 +12,7 @@ pub record Put (xs : List ℕ) (at : ℕ) (text ys : List ℕ) (next : ℕ) : Ty
   pub bytes : ys ≡ placed xs at text
 
 -- Room for the list of n bytes, whatever they are: law `list-most`. A record that is refused where the list goes on has at least 4
--- bytes, its map, and its line at most 45. One that is read has at least 36, its map, b, h, fck and fyk (44 with the layer that it must
--- have), and its line at most 157. The 48 are for a line after which the list ends: one byte is enough for it, and it has at most 45.
+-- bytes, its map, and its line at most 47. One that is read has at least 36, its map, b, h, fck and fyk (44 with the layer that it must
+-- have), and its line at most 159. The 48 are for a line after which the list ends: one byte is enough for it, and it has at most 47.
 abbrev pub roomFor : ℕ → ℕ
 roomFor n = 12 * n + 48

@@ -1,6 +1,6 @@
 -- What an accepted section gives the code that computes with it. Assumes nothing.
 use Prim.Native.Nat.{ℕ, _≤_, _<_}
-use mathlib.Core.Bool.{true}
+use mathlib.Core.Bool.{true, false}
 use mathlib.Core.List.{List}
 use mathlib.Core.Path.{_≡_}
 use lib.IntN.{pos}
@@ -9,11 +9,12 @@ use Rattle.arith.specs.Chain.{OneOf}
 use Rattle.arith.specs.Integer.{Within}
 use Rattle.materials.specs.Answer as materials
 use Rattle.section.specs.declared.Layer.{Layer}
+use Rattle.section.specs.declared.Links.{Links}
 use Rattle.section.specs.declared.Load.{Load}
 use Rattle.section.specs.declared.Design.{Design}
 use Rattle.section.specs.declared.Accepted.{Accepted}
 use Rattle.section.specs.declared.Accepted.the-variants.{Ready, Refused}
-use Rattle.section.specs.Section.{Counted, all, depthOk, areaOk}
+use Rattle.section.specs.Section.{Counted, all, depthOk, areaOk, absent}
 use Rattle.section.specs.Refusals.{sectionRefusals}
 
 -- the bounds of the numbers: b and h by their tests, the others by the promise of the materials
@@ -60,3 +61,15 @@ pub record LoadOk (load : Load) : Type 0 where
   pub n-in : Within (load .n) 500000000
   pub m-in : Within (load .m) 1000000000000
   pub v-in : Within (load .v) 500000000
+
+-- links that are present and passed
+pub record LinkRanges (k : Links) : Type 0 where
+  pub area-low : 1 ≤ k .area
+  pub area-high : k .area ≤ 5000
+  pub spacing-low : 25 ≤ k .spacing
+  pub spacing-high : k .spacing ≤ 1000
+
+-- links that passed their tests, present or not
+pub record LinksOk (k : Links) (load : Load) : Type 0 where
+  pub ranges : absent k ≡ false → LinkRanges k
+  pub no-axial : absent k ≡ false → load .n ≡ pos 0

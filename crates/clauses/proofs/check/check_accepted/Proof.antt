@@ -55,16 +55,17 @@ module _ (c : tie.After-turn-over) where
   seen = ap (λ (ds : List ℕ). layersIn (start .args .count) ds (start .args .areas .now)) (c .turn-over .ensures)
       ∙ turned-in (start .args .x .h) (start .args .depths .now) (start .args .areas .now) (omega (arith, start .pre .1 .1, start .pre .0 .count-high))
 
-  faces : Faces (start .args .x) (start .args .count) (ls start) bottoms (steel .steel-area .result) (start .args .l)
+  faces : Faces (start .args .x) (start .args .count) (ls start) bottoms (steel .steel-area .result) (start .args .k) (start .args .l)
   faces =
       record {
-        of-top = record { usable = start .pre .0; area = steel-is steel; load = start .pre .1 .0 .n-in };
+        of-top = record { usable = start .pre .0; area = steel-is steel; load = start .pre .1 .0 .1 .n-in };
         of-bottom = record {
           usable = rw seen (usable-turned (ls start) (start .pre .0));
           area = steel-is steel ∙ sym (area-turned (start .args .x .h) (ls start)) ∙ ap areaSum (sym seen);
-          load = start .pre .1 .0 .n-in;
+          load = start .pre .1 .0 .1 .n-in;
         };
-        loaded = start .pre .1 .0;
+        loaded = start .pre .1 .0 .1;
+        linked = start .pre .1 .0 .0;
       }
 
 steel-area-requires : tie.Need-steel-area-requires
@@ -74,7 +75,7 @@ carries-at-one-requires : tie.Need-carries-at-one-requires
 carries-at-one-requires c κs =
     let a = c .before in
     let s = a .before in
-    (s .pre .0 .bounded, (omega (arith, steel-is a, area-high (s .pre .0)), rw (field (s .args .l .n) (c .struct-told .given .0 .1)) (s .pre .1 .0 .n-in)))
+    (s .pre .0 .bounded, (omega (arith, steel-is a, area-high (s .pre .0)), rw (field (s .args .l .n) (c .struct-told .given .0 .1)) (s .pre .1 .0 .1 .n-in)))
 
 returns : tie.Need-returns
 returns c =
@@ -83,7 +84,7 @@ returns c =
     let s = a .before in
     let short : carries (s .args .x) (ls s) (s .args .l .n) 1 ≡ false = one-by (ls s) (s .args .l .n) (s .pre .0) (steel-is a)
     ∙ failed (tested t) (c .if1 .taken) in
-    one-refused (s .args .x) (ls s) (turned (s .args .x .h) (ls s)) (s .args .l) (one-turned (ls s) (s .args .l .n) (s .pre .0)) short
+    one-refused (s .args .x) (ls s) (turned (s .args .x .h) (ls s)) (s .args .k) (s .args .l) (one-turned (ls s) (s .args .l .n) (s .pre .0)) short
 
 turn-over-requires : tie.Need-turn-over-requires
 turn-over-requires c κs = search needs
@@ -95,7 +96,7 @@ returns-2 : tie.Need-returns-2
 returns-2 c =
     let t = c .before .before in
     let s = start t in
-    c .check-faces .ensures ∙ ap (λ bottom. checkFaces (s .args .x) (ls s) bottom (s .args .l)) (seen t)
+    c .check-faces .ensures ∙ ap (λ bottom. checkFaces (s .args .x) (ls s) bottom (s .args .k) (s .args .l)) (seen t)
 
 pub check-accepted-spec : {M : Type 1} → statement M
 check-accepted-spec =

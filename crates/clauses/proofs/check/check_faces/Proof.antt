@@ -65,8 +65,8 @@ depth-above-one-requires c κs =
       subst (λ (N : ℤ). carriesAtOne (s .args .x) (s .args .steel) N ≡ true) n (s .pre .1),
     )
 
-enum-known-k : tie.Need-enum-known-k
-enum-known-k c = search needs
+enum-known-j : tie.Need-enum-known-j
+enum-known-j c = search needs
 
 enum-known-t : tie.Need-enum-known-t
 enum-known-t c = search needs
@@ -79,8 +79,8 @@ depth-above-one-requires-2 c κs =
       subst (λ (N : ℤ). carriesAtOne (s .args .x) (s .args .steel) N ≡ true) n (s .pre .1),
     )
 
-enum-known-k-2 : tie.Need-enum-known-k-2
-enum-known-k-2 c = search needs
+enum-known-j-2 : tie.Need-enum-known-j-2
+enum-known-j-2 c = search needs
 
 enum-known-b : tie.Need-enum-known-b
 enum-known-b c = search needs
@@ -98,29 +98,29 @@ returns : tie.Need-returns
 returns c =
     let d = c .before .before .before in
     let a = start d .args in
-    top-refused (a .x) (tops (start d)) (bottoms (start d)) (a .l) (same (start d)) (sym (top-depth d) ∙ c .before .k .given .1)
+    top-refused (a .x) (tops (start d)) (bottoms (start d)) (a .k) (a .l) (same (start d)) (sym (top-depth d) ∙ c .before .j .given .1)
 
 returns-2 : tie.Need-returns-2
 returns-2 c =
     let d = c .before .before .before in
     let s = start (first d) in
-    bottom-refused (s .args .x) (tops s) (bottoms s) (s .args .l) (same s) (top-at d) (sym (bottom-depth d) ∙ c .before .k2 .given .1)
+    bottom-refused (s .args .x) (tops s) (bottoms s) (s .args .k) (s .args .l) (same s) (top-at d) (sym (bottom-depth d) ∙ c .before .j2 .given .1)
 
 returns-3 : tie.Need-returns-3
 returns-3 c =
     let b = c .before .before in
     let s = start (first (second b)) in
-    ap Done (c .report-at .ensures) ∙ both-at (s .args .x) (tops s) (bottoms s) (s .args .l) (same s) (top-at (second b)) (bottom-at b)
+    ap Done (c .report-at .ensures) ∙ both-at (s .args .x) (tops s) (bottoms s) (s .args .k) (s .args .l) (same s) (top-at (second b)) (bottom-at b)
 
 pub check-faces-spec : {M : Type 1} → statement M
 check-faces-spec =
     tie.close
     (tie.spec
     depth-above-one-requires
-    enum-known-k
+    enum-known-j
     enum-known-t
     depth-above-one-requires-2
-    enum-known-k-2
+    enum-known-j-2
     enum-known-b
     report-at-requires
     returns

@@ -121,7 +121,7 @@ report-of-requires c κs =
     let k = chosen c in
     let t = leZ (pos 0) (M k) in
     let depth = subst (DepthOk (s k .args .x)) (λ i. sym (face-is c) i .u) (depth-ok k t) in
-    (rw (layers-are k) (usable k t), (rw (layers-are k) (area-is k t), (s k .pre .0 .loaded, depth)))
+    (rw (layers-are k) (usable k t), (rw (layers-are k) (area-is k t), ((s k .pre .0 .linked, s k .pre .0 .loaded), depth)))
 
 returns : tie.Need-returns
 unfolding reportAt
@@ -129,7 +129,7 @@ returns c =
     let k = chosen (c .before) in
     let a = s k .args in
     c .report-of .ensures
-    ∙ (λ i. reportOf (a .x) (layers-are k i) (a .l) (face-is (c .before) i) (other-is (c .before) i) (moment-is (judged k) i))
+    ∙ (λ i. reportOf (a .x) (layers-are k i) (a .k) (a .l) (face-is (c .before) i) (other-is (c .before) i) (moment-is (judged k) i))
 
 pub report-at-spec : {M : Type 1} → statement M
 report-at-spec =

@@ -39,15 +39,20 @@ shear-resistance-requires c κs =
       h-low = b .h-low;
       h-high = b .h-high;
       g-high = b .materials .g-high;
-      N-in = rw (field (start a .args .l .n) (c .struct-told .given .0 .1)) (start a .pre .1 .1 .0 .n-in);
+      N-in = rw (field (start a .args .l .n) (c .struct-told .given .0 .1)) (start a .pre .1 .1 .0 .1 .n-in);
     }
+
+check-links-requires : tie.Need-check-links-requires
+check-links-requires c κs =
+    let a = c .before .before .before in
+    (start a .pre .0 .bounded, (start a .pre .1 .1 .0 .0 .ranges, depth-high a))
 
 verdict-number-requires : tie.Need-verdict-number-requires
 verdict-number-requires c κs = search needs
 
 depth-verdict-requires : tie.Need-depth-verdict-requires
 depth-verdict-requires c κs =
-    let a = c .before .before .before in
+    let a = c .before .before .before .before .before in
     (omega (arith, depth-most (start a .pre .0 .bounded) (start a .pre .1 .1 .1)), depth-high a)
 
 verdict-number-requires-2 : tie.Need-verdict-number-requires-2
@@ -61,7 +66,7 @@ verdict-number-requires-3 c κs = search needs
 
 least-verdict-requires : tie.Need-least-verdict-requires
 least-verdict-requires c κs =
-    let a = c .before .before .before .before .before .before .before .before in
+    let a = c .before .before .before .before .before .before .before .before .before .before in
     let b = start a .pre .0 .bounded in
     record { T-high = b .materials .T-high; fyk-high = b .materials .fyk-high; b-high = b .b-high; As-high = area-most a; dm-high = depth-high a }
 
@@ -70,7 +75,7 @@ verdict-number-requires-4 c κs = search needs
 
 most-verdict-requires : tie.Need-most-verdict-requires
 most-verdict-requires c κs =
-    let a = c .before .before .before .before .before .before .before .before .before .before in
+    let a = c .before .before .before .before .before .before .before .before .before .before .before .before in
     let b = start a .pre .0 .bounded in
     (omega (arith, start a .pre .1 .0, area-high (start a .pre .0)), (b .b-high, b .h-high))
 
@@ -85,7 +90,8 @@ returns c =
     let least = most .before .before in
     let shear = least .before .before in
     let depth = shear .before .before .before in
-    let vrd = depth .before .before in
+    let linked = depth .before .before in
+    let vrd = linked .before .before in
     let a = vrd .before .before in
     let l = start a .args .l in
     simp (
@@ -93,6 +99,7 @@ returns c =
       a .tension-reinforcement .ensures .1,
       start a .pre .1 .0 ∙ area-is (ls a),
       vrd .shear-resistance .ensures,
+      linked .check-links .ensures,
       depth .before .verdict-number .ensures,
       depth .depth-verdict .ensures,
       shear .before .before .verdict-number2 .ensures,
@@ -103,8 +110,9 @@ returns c =
       most .most-verdict .ensures,
       five .verdict-number5 .ensures,
       field (l .n) (vrd .before .struct-told .given .0 .1),
-      field (l .v) (shear .before .struct-told2 .given .1 .1 .0 .1),
-      field (start a .args .face .mrd) (c .struct-told3 .given .1 .0 .1),
+      field (l .v) (linked .before .struct-told2 .given .1 .1 .0 .1),
+      field (l .v) (shear .before .struct-told3 .given .1 .1 .0 .1),
+      field (start a .args .face .mrd) (c .struct-told4 .given .1 .0 .1),
     )
 
 pub report-of-spec : {M : Type 1} → statement M
@@ -113,6 +121,7 @@ report-of-spec =
     (tie.spec
     tension-reinforcement-requires
     shear-resistance-requires
+    check-links-requires
     verdict-number-requires
     depth-verdict-requires
     verdict-number-requires-2

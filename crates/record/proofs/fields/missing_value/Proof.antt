@@ -16,6 +16,9 @@ enum-told-2 c = search needs
 enum-told-3 : tie.Need-enum-told-3
 enum-told-3 c = search needs
 
+enum-told-4 : tie.Need-enum-told-4
+enum-told-4 c = search needs
+
 returns : tie.Need-returns
 returns c = rw (c .enum-told .given .1)
 
@@ -28,7 +31,10 @@ returns-3 c = rw (c .enum-told2 .given .1)
 returns-4 : tie.Need-returns-4
 returns-4 c = rw (c .enum-told3 .given .1)
 
+returns-5 : tie.Need-returns-5
+returns-5 c = rw (c .enum-told4 .given .1)
+
 pub missing-value-spec : {M : Type 1} → statement M
 missing-value-spec =
     tie.close
-    (tie.spec enum-told enum-known-f enum-told-2 enum-told-3 returns returns-2 returns-3 returns-4)
+    (tie.spec enum-told enum-known-f enum-told-2 enum-told-3 enum-told-4 returns returns-2 returns-3 returns-4 returns-5)

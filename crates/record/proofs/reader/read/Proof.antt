@@ -1,5 +1,5 @@
 -- `record::reader::read` meets its contract: at each `return` the answers of the tests say which case of `readOf` holds. Assumes nothing.
-use mathlib.Core.Path.{_≡_, refl, sym, ap, ap₂, _∙_}
+use mathlib.Core.Path.{_≡_, refl, sym, ap, _∙_}
 use mathlib.Core.Bool.{true, false}
 use mathlib.Core.List.{List}
 use Prim.Native.Nat.{ℕ}
@@ -9,17 +9,13 @@ use borrow.Author.Tests.{le-leb, lt-leb}
 use lib.Dec.{leb}
 use lib.ListN.{length}
 use denote.Ref.{now}
-use Rattle.arith.specs.Chain.{orElse}
-use Rattle.arith.proofs.Chain.{first-of}
 use Rattle.arith.proofs.Test.{failed, passed}
-use Rattle.section.specs.Section.{counted}
-use Rattle.section.specs.Refusals.{sectionTests, loadTests}
 use Rattle.section.specs.declared.Section.{Section}
 use Rattle.section.specs.declared.Load.{Load}
 use Rattle.record.specs.Map.{recordLength, onlyFields, complete}
 use Rattle.record.specs.Refusals.{mapIn}
 use Rattle.record.specs.Read.{refusedReading, readingBy, readOf}
-use Rattle.record.proofs.Readings.{testsOf, chosen, refused-by}
+use Rattle.record.proofs.Readings.{chosen, refused-by}
 use Rattle.record.proofs.Ignored.{read-clauses}
 use Rattle.record.proofs.reader.read.Statement.{statement}
 use Rattle.record.proofs.reader.read.Tie as tie
@@ -49,10 +45,10 @@ long c =
 all-stand : (c : tie.Else4) → true ≡ complete (m (c .before .before .before .before .before))
 all-stand c = sym (passed (c .before .is-complete .ensures) (c .if4 .left))
 
--- what the tests of the section and the load answered, and the reading that this gives
-module _ (c : tie.After-first-of) where
+-- what the tests of the section, the load and the links answered, and the reading that this gives
+module _ (c : tie.After-record-refusal) where
   abbrev section-read : tie.After-section-of
-  section-read = c .before .before .before .before
+  section-read = c .before .before
 
   abbrev map-known : tie.After-only-fields
   map-known = section-read .before .before .before .before .before .before
@@ -61,20 +57,15 @@ module _ (c : tie.After-first-of) where
   s = section-read .section-of .result
 
   abbrev l : Load
-  l = c .before .before .before .load-of .result
+  l = c .before .load-of .result
 
-  tested : c .first-of .result ≡ testsOf s l
-  tested =
-      c .first-of .ensures ∙ ap₂ orElse (c .before .before .section-refusal .ensures) (c .before .load-refusal .ensures)
-      ∙ sym (first-of (sectionTests (counted s)) (loadTests l))
-
-  answers : readingBy (recordLength (m map-known)) s l (c .first-of .result) ≡ readOf (xs map-known)
+  answers : readingBy (recordLength (m map-known)) s l (c .record-refusal .result) ≡ readOf (xs map-known)
   answers =
       let d = section-read .before in
       let e = d .before .before in
-      chosen (xs map-known) true true true true (c .first-of .result) (is-map map-known)
-      (section-read .section-of .ensures) (c .before .before .before .load-of .ensures)
-      (four map-known) (fielded (e .before .before)) (long e) (all-stand d) tested
+      chosen (xs map-known) true true true true (c .record-refusal .result) (is-map map-known)
+      (section-read .section-of .ensures) (c .before .load-of .ensures)
+      (four map-known) (fielded (e .before .before)) (long e) (all-stand d) (c .record-refusal .ensures)
 
 refuse-requires : tie.Need-refuse-requires
 refuse-requires c κs = search needs
@@ -137,14 +128,8 @@ section-of-requires c κs = search needs
 load-of-requires : tie.Need-load-of-requires
 load-of-requires c κs = search needs
 
-section-refusal-requires : tie.Need-section-refusal-requires
-section-refusal-requires c κs = search needs
-
-load-refusal-requires : tie.Need-load-refusal-requires
-load-refusal-requires c κs = search needs
-
-first-of-requires : tie.Need-first-of-requires
-first-of-requires c κs = search needs
+record-refusal-requires : tie.Need-record-refusal-requires
+record-refusal-requires c κs = search needs
 
 cast-refuse : tie.Need-cast-refuse
 cast-refuse c = search needs
@@ -157,8 +142,8 @@ returns-5 c =
     let f = c .before .before in
     let n = section-read f .before .before .before .before .record-length .ensures in
     read-clauses (xs (map-known f))
-    (c .refuse5 .ensures ∙ ap (refusedReading (f .first-of .result)) n
-    ∙ refused-by _ _ _ (f .first-of .result) (c .before .if5 .taken) (tested f) ∙ answers f)
+    (c .refuse5 .ensures ∙ ap (refusedReading (f .record-refusal .result)) n
+    ∙ refused-by _ _ _ (f .record-refusal .result) (c .before .if5 .taken) (f .record-refusal .ensures) ∙ answers f)
 
 returns-6 : tie.Need-returns-6
 returns-6 c =
@@ -185,9 +170,7 @@ read-spec =
     returns-4
     section-of-requires
     load-of-requires
-    section-refusal-requires
-    load-refusal-requires
-    first-of-requires
+    record-refusal-requires
     cast-refuse
     refuse-requires-5
     returns-5

@@ -1,5 +1,6 @@
 -- `record::writer::layer_value` meets its contract. Assumes nothing.
-use Rattle.record.proofs.Writing.{layer-packed}
+use mathlib.Core.Path.{ap, _∙_}
+use Rattle.record.specs.Layout.{layerBytes}
 use borrow.Author.Needs.{needs}
 use Rattle.record.proofs.writer.layer_value.Statement.{statement}
 use Rattle.record.proofs.writer.layer_value.Tie as tie
@@ -7,22 +8,11 @@ use Rattle.record.proofs.writer.layer_value.Tie as tie
 layer-at-requires : tie.Need-layer-at-requires
 layer-at-requires c κs = search needs
 
-cast-result : tie.Need-cast-result
-cast-result c = search needs
-
-mul-result : tie.Need-mul-result
-mul-result c = search needs
-
-cast-result-2 : tie.Need-cast-result-2
-cast-result-2 c = search needs
-
-add-result : tie.Need-add-result
-add-result c = search needs
+pair-value-requires : tie.Need-pair-value-requires
+pair-value-requires c κs = search needs
 
 returns : tie.Need-returns
-returns c =
-    layer-packed (c .before .before .layer-at .ensures) (search needs)
+returns c = c .pair-value .ensures ∙ ap layerBytes (c .before .layer-at .ensures)
 
 pub layer-value-spec : {M : Type 1} → statement M
-layer-value-spec =
-    tie.close (tie.spec layer-at-requires cast-result mul-result cast-result-2 add-result returns)
+layer-value-spec = tie.close (tie.spec layer-at-requires pair-value-requires returns)

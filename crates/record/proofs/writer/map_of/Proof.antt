@@ -4,7 +4,7 @@ use mathlib.Core.Bool.{Bool}
 use mathlib.Core.Logic.{⊎-elim}
 use Prim.Native.Nat.{ℕ, _+_, _-_, _^_, _≤_, _<_}
 use native.Mathlib.Omega.{arith}
-use Rattle.section.specs.Section.{counted}
+use Rattle.section.specs.Section.{counted, linksOf}
 use Rattle.section.specs.declared.Section.{Section}
 use Rattle.section.specs.declared.Load.{Load}
 use Rattle.record.specs.Map.{mapWith}
@@ -17,7 +17,7 @@ use Rattle.record.proofs.writer.map_of.Statement.{statement}
 use Rattle.record.proofs.writer.map_of.Tie as tie
 
 abbrev written : Section → Load → ℕ → Bool
-written s l k = writes (counted s) l (fieldOf k)
+written s l k = writes (counted s) (linksOf s) l (fieldOf k)
 
 abbrev Inv-loop : tie.InvT-loop
 Inv-loop s l map₀ k₀ map k = (k ≤ width) × (map ≡ mapWith (written s l) k)
@@ -57,7 +57,7 @@ loop-again c =
     let l = c .before .before .before .before .loop in
     let a = c .before .before .before .before .before .args in
     let w = written (a .s) (a .l) in
-    let asked = c .before .is-written .ensures ∙ ap (writes (counted (a .s)) (a .l)) (c .before .before .field-of .ensures) in
+    let asked = c .before .is-written .ensures ∙ ap (writes (counted (a .s)) (linksOf (a .s)) (a .l)) (c .before .before .field-of .ensures) in
     let low : l .k < 32 = omega arith in
     ⊎-elim
     (λ t. (

@@ -7,7 +7,7 @@ use Prim.Native.Nat.{ℕ, _+_, _-_, _≤_, _<_}
 use native.Mathlib.Omega.{arith}
 use lib.ListN.{length}
 use denote.Ref.{now}
-use Rattle.section.specs.Section.{counted}
+use Rattle.section.specs.Section.{counted, linksOf}
 use Rattle.record.specs.Bytes.{placed}
 use Rattle.record.specs.Map.{stands, standing, offset}
 use Rattle.record.specs.Fields.{width, fieldOf}
@@ -21,7 +21,7 @@ use Rattle.record.proofs.writer.put_fields.Tie as tie
 
 abbrev Inv-loop : tie.InvT-loop
 Inv-loop s l map buf₀ at₀ k₀ buf at k =
-    (k ≤ width) × (at ≡ offset map k) × (length buf ≡ length buf₀) × (buf ≡ placed buf₀ 4 (fieldsTo map (λ k. fieldBytes (counted s) l (fieldOf k)) k))
+    (k ≤ width) × (at ≡ offset map k) × (length buf ≡ length buf₀) × (buf ≡ placed buf₀ 4 (fieldsTo map (λ k. fieldBytes (counted s) (linksOf s) l (fieldOf k)) k))
 
 abbrev μ-loop : tie.MeasureT-loop
 μ-loop s l map buf₀ at₀ k₀ buf at k = width - k
@@ -44,9 +44,9 @@ module _ (c : tie.Then1 Inv-loop μ-loop) where
   it-stands : stands (start .args .map) k ≡ true
   it-stands = sym (c .before .bit-stands .ensures) ∙ c .if1 .taken
 
-  it-is-written : writes (counted (start .args .s)) (start .args .l) (fieldOf k) ≡ true
+  it-is-written : writes (counted (start .args .s)) (linksOf (start .args .s)) (start .args .l) (fieldOf k) ≡ true
   it-is-written =
-      sym (stands-written (counted (start .args .s)) (start .args .l) k (c .before .before .loop-test .taken))
+      sym (stands-written (counted (start .args .s)) (linksOf (start .args .s)) (start .args .l) k (c .before .before .loop-test .taken))
       ∙ ap (λ (m : ℕ). stands m k) (sym (start .pre .1)) ∙ it-stands
 
   has-room : offset (start .args .map) k + 8 ≤ length (now (start .args .buf))
@@ -58,7 +58,7 @@ field-of-requires c κs = search needs
 field-value-requires : tie.Need-field-value-requires Inv-loop μ-loop
 field-value-requires c κs =
     let s = start (c .before .before) in
-    (s .pre .0, ap (writes (counted (s .args .s)) (s .args .l)) (c .field-of .ensures) ∙ it-is-written (c .before .before))
+    (s .pre .0, ap (writes (counted (s .args .s)) (linksOf (s .args .s)) (s .args .l)) (c .field-of .ensures) ∙ it-is-written (c .before .before))
 
 put-big-endian-requires : tie.Need-put-big-endian-requires Inv-loop μ-loop
 put-big-endian-requires c κs =
@@ -82,9 +82,9 @@ loop-again c =
     let s = c .before .before .before .before .before in
     let m = s .args .map in
     let xs = now (s .args .buf) in
-    let f : ℕ → List ℕ = λ k. fieldBytes (counted (s .args .s)) (s .args .l) (fieldOf k) in
+    let f : ℕ → List ℕ = λ k. fieldBytes (counted (s .args .s)) (linksOf (s .args .s)) (s .args .l) (fieldOf k) in
     let F = fieldsTo m f (l .k) in
-    let eight : (k : ℕ) → length (f k) ≡ 8 = λ k. length-field (counted (s .args .s)) (s .args .l) (fieldOf k) in
+    let eight : (k : ℕ) → length (f k) ≡ 8 = λ k. length-field (counted (s .args .s)) (linksOf (s .args .s)) (s .args .l) (fieldOf k) in
     let n : offset m (l .k) ≡ 4 + length F = ap (λ (n : ℕ). 4 + n) (sym (length-fields m f eight (l .k))) in
     ⊎-elim
     (λ w.
@@ -95,7 +95,7 @@ loop-again c =
       w .8 ∙ ap (λ (a : ℕ). a + 8) (l .inv .1) ∙ sym (offset-yes m (l .k) t),
       ap length (w .7) ∙ w .4 .kept .0 ∙ l .inv .2,
       w .7 ∙ w .4 .ensures
-          ∙ ap (placed (l .buf) (l .at)) (w .3 .ensures ∙ ap (fieldBytes (counted (s .args .s)) (s .args .l)) (w .2 .ensures))
+          ∙ ap (placed (l .buf) (l .at)) (w .3 .ensures ∙ ap (fieldBytes (counted (s .args .s)) (linksOf (s .args .s)) (s .args .l)) (w .2 .ensures))
           ∙ ap₂ (λ (b : List ℕ) (a : ℕ). placed b a (f (l .k))) (l .inv .3) (l .inv .1 ∙ n)
           ∙ placed-more xs 4 F (f (l .k)) fits
           ∙ ap (placed xs 4) (sym (fields-yes m f (l .k) t)),
@@ -118,7 +118,7 @@ returns c =
     let l = c .before .loop in
     let s = c .before .before .before in
     let end : l .k ≡ width = omega arith in
-    let f : ℕ → List ℕ = λ k. fieldBytes (counted (s .args .s)) (s .args .l) (fieldOf k) in
+    let f : ℕ → List ℕ = λ k. fieldBytes (counted (s .args .s)) (linksOf (s .args .s)) (s .args .l) (fieldOf k) in
     l .inv .3 ∙ ap₂ (λ (m k : ℕ). placed (now (s .args .buf)) 4 (fieldsTo m f k)) (s .pre .1) end
 
 pub put-fields-spec : {M : Type 1} → statement M

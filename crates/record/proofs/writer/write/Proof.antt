@@ -1,15 +1,12 @@
 -- `record::writer::write` meets its contract. Assumes nothing.
-use mathlib.Core.Path.{_≡_, sym, ap, ap₂, _∙_}
+use mathlib.Core.Path.{_≡_, sym, ap, _∙_}
 use mathlib.Core.List.{List}
 use Prim.Native.Nat.{ℕ, _^_, _≤_, _<_}
 use native.Mathlib.Omega.{arith}
 use lib.ListN.{length, length-map}
 use lib.Signed.{mag}
 use denote.Ref.{now}
-use Rattle.arith.specs.Chain.{orElse}
-use Rattle.arith.proofs.Chain.{first-of}
-use Rattle.section.specs.Section.{counted}
-use Rattle.section.specs.Refusals.{sectionTests, loadTests}
+use Rattle.section.specs.Section.{counted, linksOf}
 use Rattle.record.specs.Bytes.{placed}
 use Rattle.record.specs.Map.{recordLength}
 use Rattle.record.specs.declared.fields.Number.{Number}
@@ -23,10 +20,10 @@ use borrow.Author.Needs.{needs}
 use Rattle.record.proofs.writer.write.Statement.{statement}
 use Rattle.record.proofs.writer.write.Tie as tie
 
--- what the tests of the section and the load answered
-module _ (c : tie.After-first-of) where
+-- what the tests of the section, the load and the links answered
+module _ (c : tie.After-record-refusal) where
   abbrev start : tie.Start
-  start = c .before .before .before .before
+  start = c .before .before
 
   number-fits : (x : Number) → mag (valueOf (counted (start .args .s)) (start .args .l) x) < 2 ^ 63
   number-fits Width = start .good .0 .1 .1 .1 .0 .1
@@ -40,31 +37,23 @@ module _ (c : tie.After-first-of) where
   machine : Machine (start .args .s) (start .args .l)
   machine = record { places = simp length-map at (start .good .0 .1 .1 .0 .1 .0 .1); numbers = number-fits }
 
-  tested : c .first-of .result ≡ testsOf (start .args .s) (start .args .l)
-  tested =
-      c .first-of .ensures ∙ ap₂ orElse (c .before .before .section-refusal .ensures) (c .before .load-refusal .ensures)
-      ∙ sym (first-of (sectionTests (counted (start .args .s))) (loadTests (start .args .l)))
+  tested : c .record-refusal .result ≡ testsOf (start .args .s) (start .args .l)
+  tested = c .record-refusal .ensures
 
 few-layers : (c : tie.Else1) → start (c .before) .args .s .count ≤ 16
 few-layers c = let a = start (c .before) .args in carried (a .s) (a .l) (machine (c .before)) (sym (tested (c .before)) ∙ c .if1 .left) .few
 
-section-refusal-requires : tie.Need-section-refusal-requires
-section-refusal-requires c κs = search needs
+record-refusal-requires : tie.Need-record-refusal-requires
+record-refusal-requires c κs = search needs
 
-load-refusal-requires : tie.Need-load-refusal-requires
-load-refusal-requires c κs = search needs
-
-first-of-requires : tie.Need-first-of-requires
-first-of-requires c κs = search needs
-
-cast-t10 : tie.Need-cast-t10
-cast-t10 c = search needs
+cast-t8 : tie.Need-cast-t8
+cast-t8 c = search needs
 
 returns : tie.Need-returns
 returns c =
     let f = c .before in
     let a = start f .args in
-    let w = by-tests (counted (a .s)) (a .l) (now (a .buf)) (c .if1 .taken) (tested f) in
+    let w = by-tests (counted (a .s)) (linksOf (a .s)) (a .l) (now (a .buf)) (c .if1 .taken) (tested f) in
     write-clauses (a .s) (a .l) (now (a .buf)) (machine f) (w .is) (w .kept)
 
 map-of-requires : tie.Need-map-of-requires
@@ -78,9 +67,9 @@ returns-2 c =
     let m = c .before .before in
     let f = m .before .before in
     let a = start f .args in
-    let short : length (now (a .buf)) < recordLength (mapOf (counted (a .s)) (a .l)) =
+    let short : length (now (a .buf)) < recordLength (mapOf (counted (a .s)) (linksOf (a .s)) (a .l)) =
     rw (← m .map-of .ensures) (omega (arith, c .before .record-length .ensures, c .if2 .taken)) in
-    let w = by-length (counted (a .s)) (a .l) (now (a .buf)) (sym (m .before .if1 .left) ∙ tested f) short in
+    let w = by-length (counted (a .s)) (linksOf (a .s)) (a .l) (now (a .buf)) (sym (m .before .if1 .left) ∙ tested f) short in
     write-clauses (a .s) (a .l) (now (a .buf)) (machine f) (w .is) (w .kept)
 
 cast-put-big-endian : tie.Need-cast-put-big-endian
@@ -109,19 +98,17 @@ returns-3 c =
     let f = m .before .before in
     let a = start f .args in
     let w =
-    done (counted (a .s)) (a .l) (now (a .buf)) (m .map-of .result) (e .before .record-length .result) (m .map-of .ensures) (e .before .record-length .ensures)
+    done (counted (a .s)) (linksOf (a .s)) (a .l) (now (a .buf)) (m .map-of .result) (e .before .record-length .result) (m .map-of .ensures) (e .before .record-length .ensures)
     (sym (m .before .if1 .left) ∙ tested f) (e .if2 .left) in
     write-clauses (a .s) (a .l) (now (a .buf)) (machine f) (w .is)
-    (p .put-fields .ensures ∙ ap (λ (ys : List ℕ). placed ys 4 (fields (counted (a .s)) (a .l))) (b .put-big-endian .ensures) ∙ w .bytes)
+    (p .put-fields .ensures ∙ ap (λ (ys : List ℕ). placed ys 4 (fields (counted (a .s)) (linksOf (a .s)) (a .l))) (b .put-big-endian .ensures) ∙ w .bytes)
 
 pub write-spec : {M : Type 1} → statement M
 write-spec =
     tie.close
     (tie.spec
-    section-refusal-requires
-    load-refusal-requires
-    first-of-requires
-    cast-t10
+    record-refusal-requires
+    cast-t8
     returns
     map-of-requires
     record-length-requires

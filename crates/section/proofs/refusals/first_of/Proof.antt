@@ -1,10 +1,10 @@
--- `record::refusals::first_of` meets its contract. Assumes nothing.
+-- `section::refusals::first_of` meets its contract. Assumes nothing.
 use mathlib.Core.Path.{sym}
 use native.Mathlib.Omega.{arith}
 use Rattle.arith.proofs.Chain.{or-first}
 use borrow.Author.Needs.{needs}
-use Rattle.record.proofs.refusals.first_of.Statement.{statement}
-use Rattle.record.proofs.refusals.first_of.Tie as tie
+use Rattle.section.proofs.refusals.first_of.Statement.{statement}
+use Rattle.section.proofs.refusals.first_of.Tie as tie
 
 returns : tie.Need-returns
 returns c = search needs
