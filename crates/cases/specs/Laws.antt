@@ -1,6 +1,7 @@
 -- What the documents say of the definitions and no contract says: each a law, in full. A law that is taken away or weakened in its crate
 -- fails here. Assumes nothing.
 use Prim.Native.Nat.{ℕ, _+_, _*_, _^_, _≤_, _<_}
+use mathlib.Core.Bool.{false}
 use mathlib.Core.List.{List, [], _++_}
 use mathlib.Core.Path.{_≡_, refl}
 use lib.IntN.{ℤ, negℤ}
@@ -13,7 +14,7 @@ use Rattle.section.specs.declared.Section.{Section}
 use Rattle.section.specs.declared.Load.{Load}
 use Rattle.section.specs.declared.Design.{Design}
 use Rattle.section.specs.declared.Accepted.the-variants.{Ready}
-use Rattle.section.specs.Section.{layersOf, Counted, counted, noLinks, countedLinks, linksOf}
+use Rattle.section.specs.Section.{layersOf, Counted, counted, absent, noLinks, countedLinks, linksOf}
 use Rattle.section.specs.Code.Usable.{Usable}
 use Rattle.section.specs.Refusals.{accepted}
 use Rattle.equilibrium.specs.Refusals.{carries}
@@ -26,10 +27,14 @@ use Rattle.equilibrium.proofs.Found as equilibrium
 use Rattle.equilibrium.proofs.DepthOne as depthOne
 use Rattle.shear.specs.SizeFactor.{K}
 use Rattle.shear.specs.Shear.{rTest, r, qTest, q}
+use Rattle.arith.proofs.Greatest.{first-only}
+use Rattle.links.specs.declared.Truss.{Truss}
+use Rattle.links.specs.Links.{strutCotangent, BestCotangent}
+use Rattle.links.proofs.Whole as links
 use Rattle.clauses.specs.Tension.{tensionLayers, As, dm}
 use Rattle.clauses.specs.declared.Verdict.the-variants.{Fail}
 use Rattle.clauses.specs.Verdicts.{first}
-use Rattle.clauses.specs.Check.{checkOf}
+use Rattle.clauses.specs.Check.{checkOf, OfReport}
 use Rattle.clauses.proofs.Laws as clauses
 use Rattle.record.specs.Map.{recordLength}
 use Rattle.record.specs.Layout.{mapOf, recordOf}
@@ -99,6 +104,17 @@ q-greatest = clauses.q-greatest
 -- As is 0 only with no tension layer
 pub no-tension : {x : Design} {n : ℕ} (ls : List Layer) → Usable x n ls → (u : ℕ) → As u ls ≡ 0 → tensionLayers u ls ≡ []
 no-tension = clauses.no-tension
+
+-- links of an accepted section always have a tension layer beside them: what 02 says of links without one is never met
+pub links-reached : (s : Section) (load : Load) → OfReport (λ x r. absent (linksOf s) ≡ false → 1 ≤ r .area) (accepted (counted s)) (checkOf s load)
+links-reached = clauses.links-reached
+
+-- the strut's cotangent: no tenth from 10 to 25 does better, and every smaller one does worse; and no other number is so
+pub best-cotangent : (x : Truss) → BestCotangent x (strutCotangent x)
+best-cotangent = links.best-cotangent
+
+pub only-cotangent : (x : Truss) {c : ℕ} → BestCotangent x c → c ≡ strutCotangent x
+only-cotangent x best = first-only best (links.best-cotangent x)
 
 -- ---- records and their list
 

@@ -23,8 +23,9 @@ use Rattle.equilibrium.specs.Refusals.{carries, reaches}
 use Rattle.section.specs.Turned.{turned}
 use Rattle.equilibrium.specs.Force.{momentResistance}
 use Rattle.equilibrium.specs.Depth.{depthAnswer, depthFor}
-use Rattle.equilibrium.specs.Accuracy.{Accurate, PromisedDepth}
-use Rattle.section.proofs.Usable.{usable-by, call-refused, call-ready, call-numbered}
+use Rattle.equilibrium.specs.Accuracy.{Accurate, DepthPromise, PromisedDepth}
+use Rattle.section.specs.Code.Usable.{Usable, LinksOk}
+use Rattle.section.proofs.Usable.{usable-by, load-links-ok, call-refused, call-ready, call-numbered}
 use Rattle.equilibrium.proofs.DepthOne.{one-turned}
 use Rattle.equilibrium.proofs.Found.{depth-promise}
 use Rattle.section.proofs.Turned.{usable-turned}
@@ -173,25 +174,33 @@ module _ (s : Section) (load : Load) where
 
   -- ---- what holds of every report, each face at a depth that keeps its promise, holds of Check's
 
-  abbrev report-with : Design → ℕ → ℕ → Report
+  -- an accepted section and links that passed their tests, at the depth of each face
+  pub record Under (x : Design) (t b : ℕ) : Type 0 where
+    pub usable : Usable x (s .count) (layersOf s)
+    pub links : LinksOk (linksOf s) load
+    pub top : DepthPromise x (layersOf s) (load .n) t
+    pub bottom : DepthPromise x (turned (x .h) (layersOf s)) (load .n) b
+
+  abbrev pub report-with : Design → ℕ → ℕ → Report
   report-with x t b = reportAt x (linksOf s) load (layersOf s) (turned (x .h) (layersOf s)) t b
 
   module _ (P : Design → Report → Type 0)
-      (each : (x : Design) (t b : ℕ) → PromisedDepth x (layersOf s) (load .n) (depth.At t)
-      → PromisedDepth x (turned (x .h) (layersOf s)) (load .n) (depth.At b) → P x (report-with x t b)) where
-    from-depths : (x : Design) (dt db : Depth) → PromisedDepth x (layersOf s) (load .n) dt → PromisedDepth x (turned (x .h) (layersOf s)) (load .n) db
+      (each : (x : Design) (t b : ℕ) → Under x t b → P x (report-with x t b)) where
+    from-depths : (x : Design) (dt db : Depth) → Usable x (s .count) (layersOf s) → LinksOk (linksOf s) load
+        → PromisedDepth x (layersOf s) (load .n) dt → PromisedDepth x (turned (x .h) (layersOf s)) (load .n) db
         → OfReport P (section.Ready x) (by-depths x (layersOf s) (turned (x .h) (layersOf s)) (linksOf s) load dt db)
     unfolding by-depths
-    from-depths x (depth.Refused j) db p q = tt
-    from-depths x (depth.At t) (depth.Refused j) p q = tt
-    from-depths x (depth.At t) (depth.At b) p q = each x t b p q
+    from-depths x (depth.Refused j) db w k p q = tt
+    from-depths x (depth.At t) (depth.Refused j) w k p q = tt
+    from-depths x (depth.At t) (depth.At b) w k p q = each x t b (record { usable = w; links = k; top = p; bottom = q })
 
     report-under : {x : Design} (k : ℕ) → k ≡ firstFailing tests → accepted (counted s) ≡ section.Ready x
         → OfReport P (section.Ready x) (checkOf s load)
     report-under {x} zero none e =
         let ls = layersOf s in
         let w = usable-by s e in
-        let both = from-depths x (depthFor x ls (load .n)) (depthFor x (turned (x .h) ls) (load .n)) (depth-promise (load .n) w)
+        let linked = load-links-ok (linksOf s) load (sym none) .links in
+        let both = from-depths x (depthFor x ls (load .n)) (depthFor x (turned (x .h) ls) (load .n)) w linked (depth-promise (load .n) w)
         (depth-promise (load .n) (usable-turned ls w)) in
         rw (← load-passed e (sym none)) (rw (← faces-by-depths x ls (turned (x .h) ls) (linksOf s) load (one-turned ls (load .n) w)) both)
     report-under (suc k) some e = rw (← load-refused (suc k) e some (λ z. omega arith)) tt
@@ -200,20 +209,19 @@ module _ (s : Section) (load : Load) where
     report-for (section.Refused j) e = rw (← check-refused e) tt
     report-for (section.Ready x) e = report-under (firstFailing tests) refl e
 
-    of-report : OfReport P (accepted (counted s)) (checkOf s load)
+    pub of-report : OfReport P (accepted (counted s)) (checkOf s load)
     of-report = report-for (accepted (counted s)) refl
 
   -- accuracy: of each face, from the promise of its depth
-  accurate-report : (x : Design) (t b : ℕ) → PromisedDepth x (layersOf s) (load .n) (depth.At t)
-      → PromisedDepth x (turned (x .h) (layersOf s)) (load .n) (depth.At b) → AccurateFaces x (layersOf s) load (report-with x t b)
-  accurate-report x t b p q =
+  accurate-report : (x : Design) (t b : ℕ) → Under x t b → AccurateFaces x (layersOf s) load (report-with x t b)
+  accurate-report x t b w =
       let ls = layersOf s in
       let faces = faces-are x (linksOf s) load ls (turned (x .h) ls) t b in
       let top = faces .0 in
       let bottom = faces .1 in
       record {
-        top = subst (λ (f : Face). Accurate x ls (load .n) (f .u) (f .mrd)) (sym top) (p .accurate);
-        bottom = subst (λ (f : Face). Accurate x (turned (x .h) ls) (load .n) (f .u) (f .mrd)) (sym bottom) (q .accurate);
+        top = subst (λ (f : Face). Accurate x ls (load .n) (f .u) (f .mrd)) (sym top) (w .top .accurate);
+        bottom = subst (λ (f : Face). Accurate x (turned (x .h) ls) (load .n) (f .u) (f .mrd)) (sym bottom) (w .bottom .accurate);
         taken = moment-is x (linksOf s) load ls (turned (x .h) ls) t b ∙ (λ i. numberOf (first (load .m) (sym top i .mrd) (sym bottom i .mrd)));
       }
 
@@ -222,7 +230,7 @@ module _ (s : Section) (load : Load) where
 
   -- the links' cotangent: of every report
   pub check-best : BestLinks s (checkOf s load)
-  check-best = of-report (BestAnswer (linksOf s)) (λ x t b p q. best-is x (linksOf s) load (layersOf s) (turned (x .h) (layersOf s)) t b)
+  check-best = of-report (BestAnswer (linksOf s)) (λ x t b w. best-is x (linksOf s) load (layersOf s) (turned (x .h) (layersOf s)) t b)
 
   -- the other clauses of `check_section` follow from its first
   pub check-clauses : {r : Checked} → r ≡ checkOf s load

@@ -1,31 +1,42 @@
 -- Laws of the clauses that documents cite and no contract needs. Assumes nothing.
 use Prim.Native.Nat.{ℕ, _*_, _≤_}
-use mathlib.Core.Bool.{Bool, true, false, _&&_}
-use mathlib.Core.List.{List, []}
-use mathlib.Core.Path.{_≡_, refl}
+use mathlib.Core.Bool.{Bool, true, false, cond, _&&_}
+use mathlib.Core.List.{List, [], _∷_}
+use mathlib.Core.Path.{_≡_, refl, ap, subst}
 use native.Mathlib.Nat.{mul-le-mul, mul-le-mul-left, le-div-iff-mul-le}
+use native.Mathlib.Decide.{decLe}
 use native.Mathlib.Omega.{arith}
-use lib.IntN.{ℤ, negℤ}
+use borrow.Author.Tests.{ltb-false}
+use lib.IntN.{ℤ, pos, negℤ}
+use lib.ListN.{length}
 use lib.Signed.{leZ, _<ℤ_}
 use Rattle.arith.specs.Every.{every}
 use Rattle.arith.specs.Greatest.{IsGreatest}
+use Rattle.arith.proofs.Fraction.{tested, holds-true}
 use Rattle.arith.proofs.Ring.{#, ⊖, le?, lt?}
 use Rattle.arith.proofs.Test.{le-true}
 use Rattle.section.specs.declared.Layer.{Layer}
 use Rattle.section.specs.declared.Section.{Section}
 use Rattle.section.specs.declared.Load.{Load}
 use Rattle.section.specs.declared.Design.{Design}
-use Rattle.section.specs.Section.{depthOk, counted, linksOf}
+use Rattle.section.specs.Section.{depthOk, layersOf, counted, absent, linksOf}
 use Rattle.section.specs.Code.Usable.{Usable}
+use Rattle.section.specs.Refusals.{accepted}
+use Rattle.section.specs.Turned.{turned}
 use Rattle.section.proofs.OneLayer.{layer-low}
+use Rattle.section.proofs.Turned.{usable-turned}
+use Rattle.equilibrium.specs.Refusals.{carries}
+use Rattle.equilibrium.specs.Accuracy.{DepthPromise}
+use Rattle.equilibrium.proofs.Pressed.{Pressed, not-pressed}
 use Rattle.shear.specs.SizeFactor.{K}
 use Rattle.shear.specs.Shear.{rTest, r, qTest, q}
 use Rattle.shear.proofs.Roots as roots
 use Rattle.shear.proofs.Roots.{K-high}
-use Rattle.clauses.specs.Tension.{tensionLayers, areaOf, firstMoment, meanDepth, As, dm}
+use Rattle.clauses.specs.Tension.{inTension, tensionLayers, areaOf, firstMoment, meanDepth, As, dm}
 use Rattle.clauses.specs.declared.Verdict.the-variants.{Fail}
 use Rattle.clauses.specs.Verdicts.{judged, first}
-use Rattle.clauses.specs.Check.{checkIn, checkOf}
+use Rattle.clauses.specs.Check.{faceAt, reportOf, reportAt, checkIn, checkOf, OfReport}
+use Rattle.clauses.proofs.Checking.{Under, report-with, of-report}
 use Rattle.clauses.proofs.Layers.{total-le, all-tension, mean-is, stress-in}
 use Rattle.clauses.proofs.Layers as layers
 
@@ -51,6 +62,43 @@ module _ {x : Design} {n : ℕ} (ls : List Layer) (w : Usable x n ls) (u : ℕ) 
 -- As is 0 only where no layer is in tension
 pub no-tension : {x : Design} {n : ℕ} (ls : List Layer) → Usable x n ls → (u : ℕ) → As u ls ≡ 0 → tensionLayers u ls ≡ []
 no-tension ls w u z = layers.no-tension u ls (w .areas) z
+
+-- under N 0 some layer is in tension: where none is, every layer and the concrete press
+pressed : (u : ℕ) (ls : List Layer) → tensionLayers u ls ≡ [] → Pressed u ls
+unfolding tensionLayers Pressed
+pressed u [] e = tt
+pressed u (l ∷ ls) e = go (inTension u l) refl (pressed u ls) e
+  where
+    go : (t : Bool) → inTension u l ≡ t → (tensionLayers u ls ≡ [] → Pressed u ls) → cond t (l ∷ tensionLayers u ls) (tensionLayers u ls) ≡ []
+        → (10 * l .depth ≤ u) × Pressed u ls
+    go true f rest g = absurd (omega (arith, ap (λ (ts : List Layer). length ts) g))
+    go false f rest g = (ltb-false _ _ f, rest g)
+
+tension-under-none : {x : Design} {n : ℕ} (ls : List Layer) → Usable x n ls → (u : ℕ) → DepthPromise x ls (pos 0) u → 1 ≤ As u ls
+tension-under-none {x} ls w u d = go (decLe 1 (As u ls))
+  where
+    go : Dec (1 ≤ As u ls) → 1 ≤ As u ls
+    go (yes h) = h
+    go (no n) =
+        let none : As u ls ≡ 0 = omega arith in
+        let carried : carries x ls (pos 0) u ≡ true = unfold carries in holds-true (tested _ _) (d .accurate .here) in
+        absurd (not-pressed x u ls (w .bounded) (d .depth .low) (pressed u ls (no-tension ls w u none)) carried)
+
+-- so links of an accepted section always have tension layers beside them: 29 leaves them N 0 alone
+module _ (s : Section) (load : Load) where
+  area-some : (x : Design) (t b : ℕ) → Under s load x t b → absent (linksOf s) ≡ false → 1 ≤ report-with s load x t b .area
+  unfolding reportAt reportOf
+  area-some x t b w h = go (leZ (pos 0) (load .m))
+    where
+      at-none : {ls : List Layer} {u : ℕ} → DepthPromise x ls (load .n) u → DepthPromise x ls (pos 0) u
+      at-none {ls} {u} d = subst (λ (N : ℤ). DepthPromise x ls N u) (w .links .no-axial h) d
+
+      go : (z : Bool) → 1 ≤ As (cond z (faceAt x (layersOf s) t) (faceAt x (turned (x .h) (layersOf s)) b) .u) (cond z (layersOf s) (turned (x .h) (layersOf s)))
+      go true = tension-under-none (layersOf s) (w .usable) t (at-none (w .top))
+      go false = tension-under-none (turned (x .h) (layersOf s)) (usable-turned (layersOf s) (w .usable)) b (at-none (w .bottom))
+
+  pub links-reached : OfReport (λ x r. absent (linksOf s) ≡ false → 1 ≤ r .area) (accepted (counted s)) (checkOf s load)
+  links-reached = of-report s load (λ x r. absent (linksOf s) ≡ false → 1 ≤ r .area) area-some
 
 -- verdict one has no M to pass where MRd of the top is below −MRd of the bottom
 pub none-between : (M top bottom : ℤ) → top <ℤ negℤ bottom → first M top bottom ≡ Fail

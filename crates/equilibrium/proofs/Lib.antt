@@ -6,3 +6,4 @@ pub mod Whole
 pub mod Sizes
 pub mod DepthOne
 pub mod Trials
+pub mod Pressed
