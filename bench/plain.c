@@ -257,12 +257,13 @@ static inline salwoerk_report refused(int number)
     return (salwoerk_report){ .refusal = (uint64_t)number, .verdicts = { 2, 2, 2, 2, 2, 2 } };
 }
 
-/* The load tests, then the link tests. */
+/* The load tests. */
 static inline int load_refusal(const salwoerk_load *l)
 {
     return outside(l->n, 500000000) ? 8 : outside(l->m, 1000000000000) ? 9 : outside(l->v, 500000000) ? 10 : 0;
 }
 
+/* The link tests. */
 static inline int link_refusal(const salwoerk_links *links, int64_t n)
 {
     if (!links->present) return 0;

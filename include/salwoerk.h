@@ -16,8 +16,8 @@
 
 /* Of this header: MAJOR changes where a caller must be compiled again, MINOR where something is added, PATCH else.
  * 3.0.0: a section holds links before count, the answer of salwoerk_check holds cotangent and link_resistance before its verdicts, which are six; so
- * whoever hands over or gets a section or a report must be compiled again, and sets links.present to 0 where there are no links (SALWOERK_SECTION_INIT
- * does). Bit 7 of a record is no longer refused: it is the links. A line of salwoerk_list has a sixth verdict.
+ * whoever hands over or gets a section or a report must be compiled again, and sets links.present to 0 where there are no links
+ * (SALWOERK_SECTION_INIT does). Bit 7 of a record is no longer refused: it is the links. A line of salwoerk_list has a sixth verdict.
  * 2.0.0: verdict one and refusal 12 of salwoerk_check look at both faces, and its answer holds other_u and other_mrd before vrd; so whoever calls
  * it must be compiled again. */
 #define SALWOERK_VERSION_MAJOR 3

@@ -257,7 +257,8 @@ class Links(TextTest):
 
     def test_messages_name_line_column_and_what_was_expected(self):
         for word, *parts in (("links=101", "'101' is no link", "101/200", "2x8/200"), ("links=1/2/3", "'1/2/3' is no link"),
-                             ("links=", "'' is no link"), ("links", "'links' is no layer", "links=101/200"), ("links=x/200", "of the link 'x/200', 'x'", "mm²", "cm2"),
+                             ("links=", "'' is no link"), ("links", "'links' is no layer", "links=101/200"),
+                             ("links=x/200", "of the link 'x/200', 'x'", "mm²", "cm2"),
                              ("links=101/x", "'x' is no number", "whole number of mm"), ("links=101/20kN", "'20kN' has no unit"),
                              ("links=101/0.5mm", "not whole in mm"), ("links=-1/200", "does not fit a record"),
                              ("links=101/4294967296", "does not fit a record", "4294967295 mm"), ("links=2x/200", "'2x'"),

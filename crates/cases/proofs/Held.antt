@@ -16,6 +16,9 @@ use Rattle.equilibrium.specs.Depth.{depthIn}
 use Rattle.equilibrium.specs.Moment.{momentIn}
 use Rattle.shear.specs.SizeFactor.{K}
 use Rattle.shear.specs.Shear.{r, q, v, c, concreteShare, axialShare, VRdc}
+use Rattle.record.specs.Bytes.{bytesOf}
+use Rattle.record.specs.Map.{mapWith}
+use Rattle.record.specs.Layout.{mapOf, fieldsTo, fields, recordOf}
 use Rattle.links.specs.Links.{linkResistance, strutResistance, strutCotangent, spacingOk, ratioOk}
 use Rattle.clauses.specs.Linked.{linkedReport}
 use Rattle.clauses.specs.Tension.{tensionLayers, total, meanDepth}
@@ -37,6 +40,7 @@ both-hold = rw everywhere (
     at concreteForce stress layerForce steelForce internalForce concreteMoment layerMoment steelResistance momentResistance
     turned carries reaches
     tensionLayers total meanDepth K r q v c concreteShare axialShare VRdc
+    mapWith mapOf fieldsTo fields recordOf bytesOf
     linkResistance strutResistance strutCotangent spacingOk ratioOk linkedReport reportOf reportAt
     in (tt, tt))
 

@@ -13,6 +13,7 @@ use Rattle.materials.specs.declared.Grade.{Grade}
 use Rattle.materials.specs.declared.Materials.{Materials}
 use Rattle.materials.specs.Answer.{materialsOf}
 use Rattle.section.specs.declared.Layer.{Layer}
+use Rattle.section.specs.declared.Links.{Links}
 use Rattle.section.specs.declared.Section.{Section}
 use Rattle.section.specs.declared.Load.{Load}
 use Rattle.section.specs.declared.Accepted.{Accepted}
@@ -28,8 +29,13 @@ use Rattle.shear.specs.Shear.{r, q}
 use Rattle.links.specs.declared.Truss.{Truss}
 use Rattle.links.specs.Links.{linkResistance, strutResistance}
 use Rattle.clauses.specs.Tension.{As, dm}
+use Rattle.record.specs.Layout.{recordOf}
 use Rattle.clauses.specs.declared.Listed.{Listed}
 use Rattle.clauses.specs.Check.{listed, checkOf}
+
+-- a section with these links
+abbrev pub withLinks : Links → Section → Section
+withLinks k s = record { layers = s .layers; width = s .width; height = s .height; grade = s .grade; links = k; count = s .count }
 
 pub data Case : Type 0 where
   -- a grade; then its materials
@@ -54,6 +60,8 @@ pub data Case : Type 0 where
   shearNumbers : Section → ℤ → ℕ → ℕ → ℕ → Case
   -- a section with links and a load; then the refusal of the load's tests and the links', 0 for none
   linkTested : Section → Load → ℕ → Case
+  -- a section and a load; then the bytes of their record
+  written : Section → Load → List ℕ → Case
   -- what 6.2.3 asks of a section and a cotangent in tenths; then the resistance of the links and that of the strut
   struts : Truss → ℕ → ℕ → ℕ → Case
 
@@ -101,7 +109,7 @@ shearIs ls (section.Refused j) u k y z = false
 unfoldable pub sameListed : Listed → Listed → Bool
 sameListed a b =
     eqb (a .refusal) (b .refusal) && eqb (a .u) (b .u) && sameℤ (a .mrd) (b .mrd) && eqb (a .other .u) (b .other .u) && sameℤ (a .other .mrd) (b .other .mrd)
-    && eqb (a .vrd) (b .vrd) && eqb (a .dm) (b .dm) && eqb (a .area) (b .area) && eqb (a .cotangent) (b .cotangent) && eqb (a .truss) (b .truss)
+    && eqb (a .vrd) (b .vrd) && eqb (a .dm) (b .dm) && eqb (a .area) (b .area) && eqb (a .cotangent) (b .cotangent) && eqb (a .resistance) (b .resistance)
     && sameNumbers (a .verdicts) (b .verdicts)
 
 abbrev pub holds : Case → Bool
@@ -115,6 +123,7 @@ holds (resists s u k m) = eqb (moment.refusalNumber (moment.momentAt s u)) k && 
 holds (turnedSteel s u z) = turnedGives (layersOf s) (sections.accepted (counted s)) u z
 holds (sizeFactor d k) = eqb (K d) k
 holds (linkTested s l k) = eqb (firstFailing (sections.loadLinkTests (linksOf s) l)) k
+holds (written s l bytes) = sameNumbers (recordOf (counted s) (linksOf s) l) bytes
 holds (struts x c k z) = eqb (linkResistance x c) k && eqb (strutResistance x c) z
 holds (shearNumbers s N k y z) = shearIs (layersOf s) (sections.accepted (counted s)) (depth.depthFound (depth.findDepth s N)) k y z
 

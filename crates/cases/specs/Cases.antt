@@ -8,7 +8,6 @@ use mathlib.Core.List.{List, [], _∷_}
 use lib.IntN.{ℤ, pos, negℤ}
 use lib.ListN.{replicate}
 use Rattle.materials.specs.declared.Grade.{Grade}
-use Rattle.section.specs.declared.Links.{Links}
 use Rattle.section.specs.declared.Section.{Section}
 use Rattle.section.specs.declared.Load.{Load}
 use Rattle.section.specs.Section.{noLayer, noLinks, linksWith}
@@ -17,7 +16,7 @@ use Rattle.clauses.specs.declared.Face.{Face}
 use Rattle.clauses.specs.declared.Listed.{Listed}
 use Rattle.clauses.specs.Check.{refusedListed}
 use Rattle.cases.specs.Case.{Case, Case.material, Case.noMaterial, Case.tests, Case.force, Case.turnedForce, Case.found, Case.resists, Case.turnedSteel}
-use Rattle.cases.specs.Case.{Case.sizeFactor, Case.shearNumbers, Case.linkTested, Case.struts, CheckRow}
+use Rattle.cases.specs.Case.{Case.sizeFactor, Case.shearNumbers, Case.linkTested, Case.written, Case.struts, CheckRow, withLinks}
 
 -- fck and fyk
 abbrev grade : ℕ → ℕ → Grade
@@ -58,17 +57,13 @@ B =
       layers = record { depth = 1; area = 1500 } ∷ replicate 15 noLayer;
     }
 
--- a section with links
-abbrev with : Links → Section → Section
-with k s = record { width = s .width; height = s .height; grade = s .grade; links = k; count = s .count; layers = s .layers }
-
 -- u and MRd of a face
 abbrev face : ℕ → ℤ → Face
 face u mrd = record { u = u; mrd = mrd }
 
 -- the face that M compresses, the other, VRd,c, dm, As, the links' cotangent and resistance and the verdicts of a call that is not refused
 abbrev linkedLine : Face → Face → ℕ → ℕ → ℕ → ℕ → ℕ → List ℕ → Listed
-linkedLine f o vrd dm area cotangent truss verdicts =
+linkedLine f o vrd dm area cotangent resistance verdicts =
     record {
       refusal = 0;
       u = f .u;
@@ -78,7 +73,7 @@ linkedLine f o vrd dm area cotangent truss verdicts =
       dm = dm;
       area = area;
       cotangent = cotangent;
-      truss = truss;
+      resistance = resistance;
       verdicts = verdicts;
     }
 
@@ -88,20 +83,20 @@ line f o vrd dm area v1 v2 v3 v4 v5 = linkedLine f o vrd dm area 0 0 (v1 ∷ v2 
 
 -- A with links under M 200,000,000: the cotangent, the resistance and verdicts three and six
 abbrev strutLine : ℕ → ℕ → ℕ → ℕ → Listed
-strutLine cotangent truss v3 v6 =
-    linkedLine (face 1358 (pos 257986051)) (face 419 (pos 6312569)) 86851 450 1500 cotangent truss (0 ∷ 0 ∷ v3 ∷ 0 ∷ 0 ∷ v6 ∷ [])
+strutLine cotangent resistance v3 v6 =
+    linkedLine (face 1358 (pos 257986051)) (face 419 (pos 6312569)) 86851 450 1500 cotangent resistance (0 ∷ 0 ∷ v3 ∷ 0 ∷ 0 ∷ v6 ∷ [])
 
 -- the same under M −1, where the bottom is compressed
 abbrev below : ℕ → ℕ → ℕ → Listed
-below cotangent truss v6 =
-    linkedLine (face 419 (pos 6312569)) (face 1358 (pos 257986051)) 14090 50 1500 cotangent truss (0 ∷ 1 ∷ 0 ∷ 0 ∷ 0 ∷ v6 ∷ [])
+below cotangent resistance v6 =
+    linkedLine (face 419 (pos 6312569)) (face 1358 (pos 257986051)) 14090 50 1500 cotangent resistance (0 ∷ 1 ∷ 0 ∷ 0 ∷ 0 ∷ v6 ∷ [])
 
 abbrev checks : Section → Load → Listed → CheckRow
 checks s l lists = record { section = s; load = l; lists = lists }
 
 -- A's links under V
 abbrev sheared : ℕ → ℕ → ℤ → Listed → CheckRow
-sheared area spacing v lists = checks (with (linksWith area spacing) A) (load (pos 0) (pos 200000000) v) lists
+sheared area spacing v lists = checks (withLinks (linksWith area spacing) A) (load (pos 0) (pos 200000000) v) lists
 
 -- what 6.2.3 asks of the tie: b 200, fck 35, fyk 500, dm 250, links 312 at 365
 abbrev tie : Truss
@@ -109,7 +104,7 @@ tie = record { b = 200; fck = 35; fyk = 500; g = 2333; s = 43478; dm = 250; area
 
 -- the tests of A's links under N
 abbrev asked : ℕ → ℕ → ℤ → ℕ → Case
-asked area spacing n k = linkTested (with (linksWith area spacing) A) (load n (pos 0) (pos 0)) k
+asked area spacing n k = linkTested (withLinks (linksWith area spacing) A) (load n (pos 0) (pos 0)) k
 
 -- A under N −651,690 with M of at least 0: what is listed, by verdict one
 abbrev hanger : ℕ → Listed
@@ -175,6 +170,28 @@ cases =
     -- request 3: the tie, at 23 and at 24
     ∷ struts tie 23 192327 198086
     ∷ struts tie 24 200689 192327
+    -- the example's record, and request 3: the same with links, area before spacing, between V and the layer
+    ∷ written A (load (pos 0) (pos 200000000) (pos 80000)) (
+    0 ∷ 0 ∷ 1 ∷ 111
+    ∷ 0 ∷ 0 ∷ 0 ∷ 0 ∷ 0 ∷ 0 ∷ 1 ∷ 44
+    ∷ 0 ∷ 0 ∷ 0 ∷ 0 ∷ 0 ∷ 0 ∷ 1 ∷ 244
+    ∷ 0 ∷ 0 ∷ 0 ∷ 0 ∷ 0 ∷ 0 ∷ 0 ∷ 30
+    ∷ 0 ∷ 0 ∷ 0 ∷ 0 ∷ 0 ∷ 0 ∷ 1 ∷ 244
+    ∷ 0 ∷ 0 ∷ 0 ∷ 0 ∷ 11 ∷ 235 ∷ 194 ∷ 0
+    ∷ 0 ∷ 0 ∷ 0 ∷ 0 ∷ 0 ∷ 1 ∷ 56 ∷ 128
+    ∷ 0 ∷ 0 ∷ 1 ∷ 194 ∷ 0 ∷ 0 ∷ 5 ∷ 220
+    ∷ [])
+    ∷ written (withLinks (linksWith 101 200) A) (load (pos 0) (pos 200000000) (pos 80000)) (
+    0 ∷ 0 ∷ 1 ∷ 239
+    ∷ 0 ∷ 0 ∷ 0 ∷ 0 ∷ 0 ∷ 0 ∷ 1 ∷ 44
+    ∷ 0 ∷ 0 ∷ 0 ∷ 0 ∷ 0 ∷ 0 ∷ 1 ∷ 244
+    ∷ 0 ∷ 0 ∷ 0 ∷ 0 ∷ 0 ∷ 0 ∷ 0 ∷ 30
+    ∷ 0 ∷ 0 ∷ 0 ∷ 0 ∷ 0 ∷ 0 ∷ 1 ∷ 244
+    ∷ 0 ∷ 0 ∷ 0 ∷ 0 ∷ 11 ∷ 235 ∷ 194 ∷ 0
+    ∷ 0 ∷ 0 ∷ 0 ∷ 0 ∷ 0 ∷ 1 ∷ 56 ∷ 128
+    ∷ 0 ∷ 0 ∷ 0 ∷ 101 ∷ 0 ∷ 0 ∷ 0 ∷ 200
+    ∷ 0 ∷ 0 ∷ 1 ∷ 194 ∷ 0 ∷ 0 ∷ 5 ∷ 220
+    ∷ [])
     -- request 3: both ends of 27, 28 and 29, and their sequence
     ∷ asked 0 200 (pos 0) 27
     ∷ asked 1 200 (pos 0) 0
@@ -189,9 +206,9 @@ cases =
     ∷ asked 0 24 (pos 1) 27
     ∷ asked 101 24 (pos 1) 28
     ∷ asked 0 200 (pos 500000001) 8
-    ∷ linkTested (with (linksWith 0 200) A) (load (pos 0) (pos 0) (pos 500000001)) 10
+    ∷ linkTested (withLinks (linksWith 0 200) A) (load (pos 0) (pos 0) (pos 500000001)) 10
     -- request 3: absent links are not asked, whatever their numbers
-    ∷ linkTested (with (record { present = 0; area = 0; spacing = 7 }) A) (load (pos 1) (pos 0) (pos 0)) 0
+    ∷ linkTested (withLinks (record { present = 0; area = 0; spacing = 7 }) A) (load (pos 1) (pos 0) (pos 0)) 0
     ∷ []
 
 -- the rows of Check
@@ -230,21 +247,24 @@ checkRows =
     ∷ sheared 52 200 (pos 80000) (strutLine 25 114455 0 1)
     ∷ sheared 101 337 (pos 80000) (strutLine 25 131933 0 0)
     ∷ sheared 101 338 (pos 80000) (strutLine 25 131543 0 1)
+    -- request 3: both limits themselves: 300 is 0.75·dm, and 60/(300·250) is 0.08·√25/500
+    ∷ checks (withLinks (linksWith 60 300) (one 250 500 25 400)) (load (pos 0) (pos 0) (pos 78260))
+    (linkedLine (face 1957 (pos 209799372)) (face 797 (pos 17807973)) 68559 400 1500 25 78260 (0 ∷ 1 ∷ 1 ∷ 0 ∷ 0 ∷ 0 ∷ []))
     -- request 3: the bottom compressed, where dm is 50
-    ∷ checks (with (linksWith 101 37) A) (load (pos 0) (negℤ (pos 1)) (pos 0)) (below 13 68895 0)
+    ∷ checks (withLinks (linksWith 101 37) A) (load (pos 0) (negℤ (pos 1)) (pos 0)) (below 13 68895 0)
     -- request 3: the smallest cotangent on a tie
-    ∷ checks (with (linksWith 312 365) (one 200 300 35 250)) (load (pos 0) (pos 0) (pos 0))
+    ∷ checks (withLinks (linksWith 312 365) (one 200 300 35 250)) (load (pos 0) (pos 0) (pos 0))
     (linkedLine (face 1595 (pos 110898695)) (face 433 (pos 5197986)) 46831 250 1500 23 192327 (0 ∷ 1 ∷ 0 ∷ 0 ∷ 0 ∷ 1 ∷ []))
     -- request 3: above fck 50, where f is below g
-    ∷ checks (with (linksWith 600 100) (one 300 500 90 450)) (load (pos 0) (pos 200000000) (pos 1352850))
+    ∷ checks (withLinks (linksWith 600 100) (one 300 500 90 450)) (load (pos 0) (pos 200000000) (pos 1352850))
     (linkedLine (face 646 (pos 278503091)) (face 345 (pos 12653841)) 125256 450 1500 13 1352850 (0 ∷ 0 ∷ 1 ∷ 0 ∷ 0 ∷ 0 ∷ []))
     -- request 3: any number but 0 is present; absent links have no numbers
-    ∷ checks (with (record { present = 7; area = 101; spacing = 200 }) A) (load (pos 0) (pos 200000000) (pos 222308)) (strutLine 25 222308 1 0)
-    ∷ checks (with (record { present = 0; area = 101; spacing = 200 }) A) (load (pos 0) (pos 200000000) (pos 80000)) (strutLine 0 0 0 2)
+    ∷ checks (withLinks (record { present = 7; area = 101; spacing = 200 }) A) (load (pos 0) (pos 200000000) (pos 222308)) (strutLine 25 222308 1 0)
+    ∷ checks (withLinks (record { present = 0; area = 101; spacing = 200 }) A) (load (pos 0) (pos 200000000) (pos 80000)) (strutLine 0 0 0 2)
     -- request 3: 27, 28 and 29, and 29 before 11 and 12
     ∷ sheared 0 200 (pos 0) (refusedListed 27)
     ∷ sheared 101 24 (pos 0) (refusedListed 28)
-    ∷ checks (with (linksWith 101 200) A) (load (pos 1) (pos 0) (pos 0)) (refusedListed 29)
-    ∷ checks (with (linksWith 101 200) A) (load (negℤ (pos 651691)) (pos 0) (pos 0)) (refusedListed 29)
-    ∷ checks (with (linksWith 101 200) A) (load (pos 2505001) (pos 0) (pos 0)) (refusedListed 29)
+    ∷ checks (withLinks (linksWith 101 200) A) (load (pos 1) (pos 0) (pos 0)) (refusedListed 29)
+    ∷ checks (withLinks (linksWith 101 200) A) (load (negℤ (pos 651691)) (pos 0) (pos 0)) (refusedListed 29)
+    ∷ checks (withLinks (linksWith 101 200) A) (load (pos 2505001) (pos 0) (pos 0)) (refusedListed 29)
     ∷ []

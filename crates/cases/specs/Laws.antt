@@ -43,6 +43,7 @@ use Rattle.record.proofs.Laws as records
 use Rattle.listing.specs.Records.{GoesOn, listOf}
 use Rattle.listing.specs.Program.{firstLine, tooLong, printedOf}
 use Rattle.listing.proofs.Laws as listing
+use Rattle.cases.specs.Case.{withLinks}
 
 -- ---- "Sections that differ only there count as the same": places beyond the counted layers; and numbers of absent links, for Check and
 -- for records
@@ -69,9 +70,6 @@ pub absent-links : (k : Links) → k .present ≡ 0 → countedLinks k ≡ noLin
 absent-links k e = rw e
 
 -- Find a depth and Moment at a depth ignore links
-abbrev withLinks : Links → Section → Section
-withLinks k s = record { layers = s .layers; width = s .width; height = s .height; grade = s .grade; links = k; count = s .count }
-
 pub find-ignores-links : (s : Section) (k : Links) (N : ℤ) → findDepth (withLinks k s) N ≡ findDepth s N
 find-ignores-links s k N = refl
 

@@ -1,1 +1,1 @@
-// The worked cases of document 01 and the laws that documents cite: theorems only.
+// The worked cases of documents 01 and 02 and the laws that documents cite: theorems only.

@@ -43,7 +43,7 @@ use Rattle.links.specs.Links.{lesser, BestCotangent}
 use Rattle.links.proofs.Whole.{best-cotangent}
 use Rattle.clauses.specs.Linked.{trussOf, reachesLinks, linkReport, linkedReport}
 
--- ---- the answer of Check, by cases of the section tests and of the load tests
+-- ---- the answer of Check, by cases of the section tests and of those of load and links
 
 -- of both faces: what `depthFor` says of each
 by-depths : (x : Design) (top bottom : List Layer) (k : Links) (load : Load) → Depth → Depth → Checked

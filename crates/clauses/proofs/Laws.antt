@@ -93,7 +93,8 @@ module _ (s : Section) (load : Load) where
       at-none : {ls : List Layer} {u : ℕ} → DepthPromise x ls (load .n) u → DepthPromise x ls (pos 0) u
       at-none {ls} {u} d = subst (λ (N : ℤ). DepthPromise x ls N u) (w .links .no-axial h) d
 
-      go : (z : Bool) → 1 ≤ As (cond z (faceAt x (layersOf s) t) (faceAt x (turned (x .h) (layersOf s)) b) .u) (cond z (layersOf s) (turned (x .h) (layersOf s)))
+      go : (z : Bool)
+          → 1 ≤ As (cond z (faceAt x (layersOf s) t) (faceAt x (turned (x .h) (layersOf s)) b) .u) (cond z (layersOf s) (turned (x .h) (layersOf s)))
       go true = tension-under-none (layersOf s) (w .usable) t (at-none (w .top))
       go false = tension-under-none (turned (x .h) (layersOf s)) (usable-turned (layersOf s) (w .usable)) b (at-none (w .bottom))
 

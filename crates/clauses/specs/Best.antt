@@ -17,7 +17,7 @@ use Rattle.clauses.specs.Check.{OfReport}
 -- resistance that is reported is the lesser one there
 pub record BestAnswer (k : Links) (x : Design) (r : Report) : Type 0 where
   pub best : reachesLinks k (r .area) ≡ true → BestCotangent (trussOf x k (r .dm)) (r .cotangent)
-  pub least : reachesLinks k (r .area) ≡ true → r .truss ≡ lesser (trussOf x k (r .dm)) (r .cotangent)
+  pub least : reachesLinks k (r .area) ≡ true → r .resistance ≡ lesser (trussOf x k (r .dm)) (r .cotangent)
 
 abbrev pub BestLinks : Section → Checked → Type 0
 BestLinks s r = OfReport (BestAnswer (linksOf s)) (accepted (counted s)) r

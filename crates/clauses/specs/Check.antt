@@ -55,7 +55,7 @@ module _ (x : Design) (ls : List Layer) (k : Links) (load : Load) (face other : 
         dm = mean;
         area = area;
         cotangent = linked .cotangent;
-        truss = linked .resistance;
+        resistance = linked .resistance;
         moment = numberOf moment;
         depth = numberOf (second (x .m .fck) (face .u) area mean);
         shear = numberOf (third (load .v) vrd area);
@@ -115,7 +115,7 @@ refusedListed k =
       dm = 0;
       area = 0;
       cotangent = 0;
-      truss = 0;
+      resistance = 0;
       verdicts = replicate 6 2;
     }
 
@@ -131,7 +131,7 @@ listed (Done r) =
       dm = r .dm;
       area = r .area;
       cotangent = r .cotangent;
-      truss = r .truss;
+      resistance = r .resistance;
       verdicts = r .moment ∷ r .depth ∷ r .shear ∷ r .least ∷ r .most ∷ r .links ∷ [];
     }
 

@@ -1,5 +1,6 @@
--- When Check is turned down: document 01, and 02's ticket 1 on 12 and its ticket 3 on the links. Its sequence of tests is a list, in 01's order; the first that fails
--- gives the refusal. The section tests, the load tests and those of the links stand on the page `Refusals` of the section. Assumes nothing.
+-- When Check is turned down: document 01, with 02's ticket 1 on 12 and its ticket 3 on the links. Its sequence of tests is a list, in the
+-- documents' order; the first that fails gives the refusal. The section tests, the load tests and those of the links stand on the page
+-- `Refusals` of the section. Assumes nothing.
 use Prim.Native.Nat.{ℕ}
 use mathlib.Core.Bool.{_&&_}
 use mathlib.Core.List.{List, [], _∷_, _++_}

@@ -46,7 +46,7 @@ fourth T fyk b As dm =
 abbrev pub fifth : ℕ → ℕ → ℕ → Verdict
 fifth area b h = judged (leb (25 * area) (b * h))
 
--- six, 6.2.3, of a section with links and tension layers: pass when |V| is at most the resistance, the spacing at most 0.75·dm and the link
--- ratio at least 0.08·√fck/fyk
+-- six, 6.2.3, of a section with links and tension layers: pass when |V| is at most the resistance, the spacing at most 0.75·dm (9.2.2(6)) and
+-- the link ratio at least 0.08·√fck/fyk (9.2.2(5))
 abbrev pub sixth : Truss → ℤ → Verdict
 sixth x «V» = judged (leb (natAbs «V») (trussResistance x) && (spacingOk x && ratioOk x))

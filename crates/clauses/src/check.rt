@@ -55,7 +55,7 @@ fn report_of(
         dm: t.depth,
         area: t.area,
         cotangent: linked.cotangent,
-        truss: linked.resistance,
+        resistance: linked.resistance,
         moment: verdict_number(moment),
         depth: verdict_number(verdicts::depth_verdict(x.m.fck, u, t.area, t.depth)),
         shear: verdict_number(verdicts::shear_verdict(l.v, vrd, t.area)),

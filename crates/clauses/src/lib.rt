@@ -43,7 +43,7 @@ pub struct Report {
     pub dm: u64,
     pub area: u64,
     pub cotangent: u64,
-    pub truss: u64,
+    pub resistance: u64,
     // 6.1
     pub moment: u64,
     // 5.6.3(2)
@@ -54,7 +54,7 @@ pub struct Report {
     pub least: u64,
     // 9.2.1.1(3)
     pub most: u64,
-    // 6.2.3
+    // 6.2.3, 9.2.2(5) and (6)
     pub links: u64,
 }
 
@@ -63,7 +63,7 @@ pub enum Checked {
     Refused(u8),
 }
 
-// Document 01's numbers for each case of the answer: the refusal, 0 for none, what is reported, and the verdicts in 01's
+// The documents' numbers for each case of the answer: the refusal, 0 for none, what is reported, and the verdicts in their
 // sequence, 0 pass, 1 fail, 2 not reached. A refusal has zeros and 2s.
 #[repr(C)]
 pub struct Listed {
@@ -75,7 +75,7 @@ pub struct Listed {
     pub dm: u64,
     pub area: u64,
     pub cotangent: u64,
-    pub truss: u64,
+    pub resistance: u64,
     pub verdicts: [u64; 6],
 }
 

@@ -2,9 +2,9 @@
 use super::numbers::verdict_number;
 use super::verdicts::judge;
 use links::Truss;
+use links::best_strut;
 use links::ratio_ok;
 use links::spacing_ok;
-use links::strut_angle;
 use section::Design;
 use section::Links;
 ghost use mathlib.Core.Bool.{false};
@@ -27,7 +27,7 @@ fn present_links(x: Truss, v: i64) -> LinkReport
     requires { ⌜ TrussBounds x ⌝ }
     ensures { λ r. ⌜ r ≡ linkReport x v ⌝ }
 {
-    let strut = strut_angle(x);
+    let strut = best_strut(x);
     let carried = arith::magnitude(v) <= strut.resistance;
     let passes = arith::both(carried, arith::both(spacing_ok(x), ratio_ok(x)));
     LinkReport {

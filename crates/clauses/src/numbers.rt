@@ -35,7 +35,7 @@ pub fn refused_listed(k: u64) -> Listed
         dm: 0,
         area: 0,
         cotangent: 0,
-        truss: 0,
+        resistance: 0,
         verdicts: verdicts,
     }
 }
@@ -61,7 +61,7 @@ fn report_listed(report: Report) -> Listed
         dm: report.dm,
         area: report.area,
         cotangent: report.cotangent,
-        truss: report.truss,
+        resistance: report.resistance,
         verdicts: verdicts,
     }
 }

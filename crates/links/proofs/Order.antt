@@ -1,4 +1,4 @@
--- The links resist more with every tenth, the strut less, and one comparison says which of the two resists less. Assumes nothing.
+-- With every tenth the links resist no less, the strut no more, and one comparison says which of the two resists less. Assumes nothing.
 use Prim.Native.Nat.{ℕ, _+_, _-_, _*_, _≤_, _<_}
 use native.Mathlib.Nat.{le-refl, le-of-lt, mul-le-mul, mul-le-mul-left}
 use native.Mathlib.Omega.{arith}

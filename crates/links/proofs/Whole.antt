@@ -1,13 +1,11 @@
 -- The formulas of 6.2.3 and 9.2.2 come to divisions and tests of whole numbers; and what the cotangent is best at. Assumes nothing.
-use Prim.Native.Nat.{ℕ, suc, _+_, _-_, _*_, _/_, _≤_}
-use mathlib.Core.Path.{_≡_, refl, ap}
-use mathlib.Core.Bool.{Bool, true}
-use native.Mathlib.Nat.{sub-add-cancel, mul-le-mul-left, le-of-mul-le-mul-left}
+use Prim.Native.Nat.{ℕ, _+_, _-_, _*_, _/_, _≤_}
+use mathlib.Core.Path.{_≡_, ap}
+use native.Mathlib.Nat.{sub-add-cancel}
 use native.Mathlib.Omega.{arith}
 use lib.Dec.{T, leb, le→leb}
 use lib.IntN.{pos}
-use borrow.Author.Tests.{leb-true, le-leb}
-use Rattle.arith.specs.Fraction.{Fraction, Proper, Same, Ratio, whole, ratio, reciprocal, _-ᶠ_, _*ᶠ_, _/ᶠ_, _÷ᶠ_, _+ʳ_, atMost}
+use Rattle.arith.specs.Fraction.{Same, whole, ratio, reciprocal, _-ᶠ_, _*ᶠ_, _/ᶠ_, _÷ᶠ_, _+ʳ_}
 use Rattle.arith.proofs.Fraction.{tidy, proper, Positive, ÷ᶠ-proper}
 use Rattle.arith.proofs.Greatest.{first-greatest}
 use Rattle.arith.proofs.Quotient.{per, rounded-same, times-test}

@@ -30,7 +30,8 @@ strutResistance x c =
 abbrev pub lesser : Truss → ℕ → ℕ
 lesser x c = min (linkResistance x c) (strutResistance x c)
 
--- the answer, in tenths: each tenth from 1.0 to 2.5 is tried; the one whose lesser resistance is greatest, the smallest on a tie
+-- the answer, in tenths: each tenth from 1.0 to 2.5, the limits of (6.7N), is tried; the one whose lesser resistance is greatest, the
+-- smallest on a tie
 unfoldable pub strutCotangent : Truss → ℕ
 strutCotangent x = firstGreatest (lesser x) 10 15
 

@@ -40,9 +40,9 @@ fn strut_resistance(x: Truss, c: u64) -> u64
     27 * x.b * x.dm * (250 - x.fck) * x.g * c / (125000 * (c * c + 100))
 }
 
-// The links resist more with every tenth, and the strut less: so the tenths at which the links resist no more than the strut come first.
-// The last of them, 9 where there is none. Without rounding, (6.8) is at most (6.9) where steel·(c² + 100) ≤ concrete. Which tenths these
-// are follows no rule, so the loop has no branch.
+// With every tenth the links resist no less, and the strut no more: so the tenths at which the links resist no more than the strut come
+// first. The last of them before anything is rounded, 9 where there is none: (6.8) is at most (6.9) where steel·(c² + 100) ≤ concrete. How
+// many they are differs from section to section, and a branch would be guessed wrong: so the loop has none.
 fn crossing(x: Truss) -> u64
     requires { ⌜ TrussBounds x ⌝ }
     ensures { λ r. ⌜ Crossing x r ⌝ }
@@ -74,9 +74,9 @@ fn first_with(x: Truss, last: u64, most: u64) -> u64
     c
 }
 
-// The cotangent whose lesser resistance is greatest, the smallest on a tie, of the tenths from 1.0 to 2.5: where the links and the strut
-// cross, or the next tenth, if the strut resists more there than the links did.
-pub fn strut_angle(x: Truss) -> Strut
+// The cotangent whose lesser resistance is greatest, the smallest on a tie, of the tenths from 1.0 to 2.5, (6.7N): the next tenth after
+// links and strut cross, if the strut resists more there than the links did before; else the first at which the links resist as much.
+pub fn best_strut(x: Truss) -> Strut
     requires { ⌜ TrussBounds x ⌝ }
     ensures { λ r. ⌜ (r .cotangent ≡ strutCotangent x) × (r .resistance ≡ trussResistance x) ⌝ }
     ensures best { λ r. ⌜ BestCotangent x (r .cotangent) ⌝ }

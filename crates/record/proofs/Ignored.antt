@@ -12,7 +12,6 @@ use lib.Seq.{length-take-le, getD-take}
 use Rattle.arith.specs.Chain.{firstFailing}
 use Rattle.section.specs.Section.{noLinks, linksWith}
 use Rattle.section.specs.declared.Layer.{Layer}
-use Rattle.section.specs.declared.Links.{Links}
 use Rattle.record.specs.declared.Reading.{Reading}
 use Rattle.record.specs.Bytes.{numberAt, signed}
 use Rattle.record.specs.Map.{stands, offset, recordLength, onlyFields, complete}

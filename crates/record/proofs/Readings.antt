@@ -80,7 +80,8 @@ read-one-of xs =
     (test-one-of 21 (onlyFields m) (record { member = tt })
     (test-one-of 22 (leb (recordLength m) (length xs)) (record { member = tt })
     (test-one-of 23 (complete m) (record { member = tt })
-    (among (0 ∷ readRefusals) (0 ∷ (sectionRefusals ++ loadLinkRefusals)) tt (tests-one-of (counted (sectionOf xs m)) (linksOf (sectionOf xs m)) (loadOf xs m)))))))
+    (among (0 ∷ readRefusals) (0 ∷ (sectionRefusals ++ loadLinkRefusals)) tt
+    (tests-one-of (counted (sectionOf xs m)) (linksOf (sectionOf xs m)) (loadOf xs m)))))))
 
 pub refusal-small : (xs : List ℕ) → readOf xs .refusal < 256
 refusal-small xs = ltb→lt (readOf xs .refusal) 256 (passes (λ k. ltb k 256) (0 ∷ readRefusals) tt (read-one-of xs))

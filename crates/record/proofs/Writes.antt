@@ -56,7 +56,8 @@ module _ (c : Counted) (links : Links) (l : Load) (buf : List ℕ) where
   no-refusal e h = write-first ∙ rw (sym e, le-leb (recordLength (mapOf c links l)) (length buf) h)
 
   -- the map and the fields, written one after the other, are the record
-  whole-record : 4 ≤ length buf → placed (placed buf 0 (bytesOf 4 (mapOf c links l))) 4 (fields c links l) ≡ recordOf c links l ++ drop (length (recordOf c links l)) buf
+  whole-record : 4 ≤ length buf
+      → placed (placed buf 0 (bytesOf 4 (mapOf c links l))) 4 (fields c links l) ≡ recordOf c links l ++ drop (length (recordOf c links l)) buf
   unfolding recordOf placed
   whole-record h =
       let B = bytesOf 4 (mapOf c links l) in
@@ -78,5 +79,6 @@ module _ (c : Counted) (links : Links) (l : Load) (buf : List ℕ) where
       let z = sym (no-refusal e fits) in
       record {
         is = ap (λ (n : ℕ). writtenBy n 0) (en ∙ ap recordLength em) ∙ ap (writtenBy (recordLength (mapOf c links l))) z;
-        bytes = ap (λ (m : ℕ). placed (placed buf 0 (bytesOf 4 m)) 4 (fields c links l)) em ∙ whole-record (omega arith) ∙ ap (changedBy (recordOf c links l) buf) z;
+        bytes = ap (λ (m : ℕ). placed (placed buf 0 (bytesOf 4 m)) 4 (fields c links l)) em ∙ whole-record (omega arith)
+            ∙ ap (changedBy (recordOf c links l) buf) z;
       }

@@ -1,6 +1,6 @@
 -- When Read a record and Write a record are turned down: document 01, and 02's ticket 3 for the links. The sequence of each is a list of
--- tests, in 01's order; the first that fails gives the refusal. The section tests, the load tests and those of the links stand on the page
--- `Refusals` of the section. Assumes nothing.
+-- tests, in the documents' order; the first that fails gives the refusal. The section tests, the load tests and those of the links stand
+-- on the page `Refusals` of the section. Assumes nothing.
 use Prim.Native.Nat.{ℕ}
 use mathlib.Core.Bool.{Bool, not}
 use mathlib.Core.List.{List, [], _∷_, _++_}

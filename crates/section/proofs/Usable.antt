@@ -1,4 +1,4 @@
--- The promise of the section tests, and what a section and a load that pass are: here the promise of the materials comes in.
+-- The promise of the section tests, and what a section, a load and links that pass are: here the promise of the materials comes in.
 -- Assumes nothing.
 use Prim.Native.Nat.{ℕ, zero, suc, _≤_}
 use mathlib.Core.Bool.{Bool, true, false, _&&_, _||_}
@@ -238,7 +238,6 @@ links-ok k l e =
           let area = both-true (leb 1 (k .area)) (leb (k .area) 5000) (or-present (a .0) h) in
           let spacing = both-true (leb 25 (k .spacing)) (leb (k .spacing) 1000) (or-present (s .0) h) in
           record {
-            area-low = leb-true _ _ (area .0);
             area-high = leb-true _ _ (area .1);
             spacing-low = leb-true _ _ (spacing .0);
             spacing-high = leb-true _ _ (spacing .1);

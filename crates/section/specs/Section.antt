@@ -19,7 +19,7 @@ noLayer = record { depth = 0; area = 0 }
 abbrev pub layersOf : Section → List Layer
 layersOf s = take (s .count) (s .layers)
 
--- all that every call reads of a section. Sections that differ only beyond the count are the same here.
+-- all that is read of a section besides its links. Sections that differ only beyond the count are the same here.
 pub record Counted : Type 0 where
   pub width : ℤ
   pub height : ℤ

@@ -210,7 +210,9 @@ fn first_of(k: u8, j: u8) -> u8
 pub fn load_link_refusal(k: Links, l: Load) -> u8
     ensures { λ r. ⌜ r ≡ firstFailing (loadLinkTests k l) ⌝ }
 {
-    first_of(load_refusal(l), link_refusal(k, l))
+    let load = load_refusal(l);
+    let links = link_refusal(k, l);
+    first_of(load, links)
 }
 
 // The section tests, or 0.

@@ -4,7 +4,8 @@ use mathlib.Core.Path.{_≡_}
 use Rattle.links.specs.declared.Truss.{Truss}
 use Rattle.links.specs.Links.{linkResistance, strutResistance}
 
--- m is the last tenth from 10 to 25 at which the links resist no more than the strut, 9 where there is none
+-- up to m the links resist no more than the strut, and beyond m the strut no more than the links; 9 where that holds of every tenth from 10
+-- to 25
 pub record Crossing (x : Truss) (m : ℕ) : Type 0 where
   pub low : 9 ≤ m
   pub high : m ≤ 25

@@ -64,7 +64,6 @@ pub record LoadOk (load : Load) : Type 0 where
 
 -- links that are present and passed
 pub record LinkRanges (k : Links) : Type 0 where
-  pub area-low : 1 ≤ k .area
   pub area-high : k .area ≤ 5000
   pub spacing-low : 25 ≤ k .spacing
   pub spacing-high : k .spacing ≤ 1000

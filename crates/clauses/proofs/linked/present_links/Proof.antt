@@ -10,8 +10,8 @@ use borrow.Author.Needs.{needs}
 use Rattle.clauses.proofs.linked.present_links.Statement.{statement}
 use Rattle.clauses.proofs.linked.present_links.Tie as tie
 
-strut-angle-requires : tie.Need-strut-angle-requires
-strut-angle-requires c κs = search needs
+best-strut-requires : tie.Need-best-strut-requires
+best-strut-requires c κs = search needs
 
 magnitude-requires : tie.Need-magnitude-requires
 magnitude-requires c κs = search needs
@@ -45,7 +45,7 @@ passes-is c =
     let size = spaced .before .before in
     let strut = size .before in
     let magnitude = size .magnitude .ensures ∙ ap natAbs (toZ-ofZ (strut .before .fits .v)) in
-    c .both2 .ensures ∙ (λ i. leb (magnitude i) (strut .strut-angle .ensures .0 .1 i) && two .both .ensures i)
+    c .both2 .ensures ∙ (λ i. leb (magnitude i) (strut .best-strut .ensures .0 .1 i) && two .both .ensures i)
     ∙ (λ i. leb (natAbs (strut .before .args .v)) (trussResistance (strut .before .args .x)) && (spaced .spacing-ok .ensures i && enough .ratio-ok .ensures i))
 
 returns : tie.Need-returns
@@ -53,13 +53,13 @@ returns c =
     let judging = c .before in
     let strut = judging .before .before .before .before .before .before .before in
     let verdict = c .verdict-number .ensures ∙ ap numberOf (judging .judge .ensures ∙ ap judged (passes-is (judging .before))) in
-    λ i. record { cotangent = strut .strut-angle .ensures .0 .0 i; resistance = strut .strut-angle .ensures .0 .1 i; verdict = verdict i }
+    λ i. record { cotangent = strut .best-strut .ensures .0 .0 i; resistance = strut .best-strut .ensures .0 .1 i; verdict = verdict i }
 
 pub present-links-spec : {M : Type 1} → statement M
 present-links-spec =
     tie.close
     (tie.spec
-    strut-angle-requires
+    best-strut-requires
     magnitude-requires
     spacing-ok-requires
     ratio-ok-requires

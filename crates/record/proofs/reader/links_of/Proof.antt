@@ -1,7 +1,6 @@
 -- `record::reader::links_of` meets its contract. Assumes nothing.
 use mathlib.Core.Bool.{Bool, cond}
 use mathlib.Core.Path.{sym, ap, ap₂, _∙_}
-use Prim.Native.Nat.{ℕ}
 use native.Mathlib.Omega.{arith}
 use lib.ListN.{length}
 use denote.Ref.{now}

@@ -21,7 +21,8 @@ use Rattle.record.proofs.writer.put_fields.Tie as tie
 
 abbrev Inv-loop : tie.InvT-loop
 Inv-loop s l map buf₀ at₀ k₀ buf at k =
-    (k ≤ width) × (at ≡ offset map k) × (length buf ≡ length buf₀) × (buf ≡ placed buf₀ 4 (fieldsTo map (λ k. fieldBytes (counted s) (linksOf s) l (fieldOf k)) k))
+    (k ≤ width) × (at ≡ offset map k) × (length buf ≡ length buf₀)
+    × (buf ≡ placed buf₀ 4 (fieldsTo map (λ k. fieldBytes (counted s) (linksOf s) l (fieldOf k)) k))
 
 abbrev μ-loop : tie.MeasureT-loop
 μ-loop s l map buf₀ at₀ k₀ buf at k = width - k

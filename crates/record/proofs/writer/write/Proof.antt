@@ -98,7 +98,8 @@ returns-3 c =
     let f = m .before .before in
     let a = start f .args in
     let w =
-    done (counted (a .s)) (linksOf (a .s)) (a .l) (now (a .buf)) (m .map-of .result) (e .before .record-length .result) (m .map-of .ensures) (e .before .record-length .ensures)
+    done (counted (a .s)) (linksOf (a .s)) (a .l) (now (a .buf)) (m .map-of .result) (e .before .record-length .result)
+    (m .map-of .ensures) (e .before .record-length .ensures)
     (sym (m .before .if1 .left) ∙ tested f) (e .if2 .left) in
     write-clauses (a .s) (a .l) (now (a .buf)) (machine f) (w .is)
     (p .put-fields .ensures ∙ ap (λ (ys : List ℕ). placed ys 4 (fields (counted (a .s)) (linksOf (a .s)) (a .l))) (b .put-big-endian .ensures) ∙ w .bytes)

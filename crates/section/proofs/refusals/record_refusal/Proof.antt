@@ -28,7 +28,8 @@ returns c =
     let links = section .before in
     let a = links .before .args in
     let tested = loaded .load-link-refusal .ensures ∙ ap (λ (k : Links). firstFailing (loadLinkTests k (a .l))) (links .counted-links .ensures) in
-    c .first-of .ensures ∙ ap₂ orElse (section .section-refusal .ensures) tested ∙ sym (first-of (sectionTests (counted (a .s))) (loadLinkTests (linksOf (a .s)) (a .l)))
+    c .first-of .ensures ∙ ap₂ orElse (section .section-refusal .ensures) tested
+    ∙ sym (first-of (sectionTests (counted (a .s))) (loadLinkTests (linksOf (a .s)) (a .l)))
 
 pub record-refusal-spec : {M : Type 1} → statement M
 record-refusal-spec =

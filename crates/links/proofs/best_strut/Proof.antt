@@ -1,4 +1,4 @@
--- `links::strut_angle` meets its contract: links and strut cross, and the cotangent is there. Assumes nothing.
+-- `links::best_strut` meets its contract: links and strut cross, and the cotangent is there. Assumes nothing.
 use Prim.Native.Nat.{ℕ, _+_, _≤_}
 use mathlib.Core.Logic.{⊎-elim}
 use mathlib.Core.Path.{_≡_, sym, ap, _∙_}
@@ -10,8 +10,8 @@ use Rattle.links.specs.declared.Truss.{Truss}
 use Rattle.links.specs.Links.{linkResistance, strutResistance, lesser, strutCotangent, trussResistance, BestCotangent}
 use Rattle.links.proofs.Order.{links-rise, strut-falls}
 use Rattle.links.proofs.Whole.{best-cotangent}
-use Rattle.links.proofs.strut_angle.Statement.{statement}
-use Rattle.links.proofs.strut_angle.Tie as tie
+use Rattle.links.proofs.best_strut.Statement.{statement}
+use Rattle.links.proofs.best_strut.Tie as tie
 
 -- the best cotangent is the answer, and what resists there its resistance
 answered : (x : Truss) {c r : ℕ} → BestCotangent x c → r ≡ lesser x c → ((c ≡ strutCotangent x) × (r ≡ trussResistance x)) × BestCotangent x c
@@ -79,8 +79,8 @@ returns-3 c =
     (peak-at (links-rise x (s .pre)) (strut-falls x (s .pre)) low (m .high) (m .below) (m .above) (f .low) (f .high) (f .same) (f .worse) no-better)
     (links .link-resistance .ensures ∙ sym (f .same) ∙ sym (min-eq-left (m .below (c .first-with .result) (f .low) (f .high))))
 
-pub strut-angle-spec : {M : Type 1} → statement M
-strut-angle-spec =
+pub best-strut-spec : {M : Type 1} → statement M
+best-strut-spec =
     tie.close
     (tie.spec
     crossing-requires
