@@ -1,4 +1,6 @@
--- Vertical links: document 02, ticket 3. The resistance of 6.2.3(3) by the truss model, and what 9.2.2 asks of the links. Assumes nothing.
+-- Vertical links: document 02, ticket 3. The resistance of 6.2.3(3) by the truss model, and what 9.2.2 asks of the links. Of a `Truss` x, b,
+-- fck, fyk, g and s are 01's letters, dm is the mean depth of the tension layers, `area` the links' area, the standard's Asw, and `spacing`
+-- their spacing. Assumes nothing.
 use Prim.Native.Nat.{ℕ, _*_, min}
 use mathlib.Core.Bool.{Bool}
 use Rattle.arith.specs.Fraction.{Fraction, Ratio, whole, ratio, reciprocal, _-ᶠ_, _*ᶠ_, _/ᶠ_, _÷ᶠ_, _+ʳ_, atMost, roundedDown}
@@ -30,8 +32,8 @@ strutResistance x c =
 abbrev pub lesser : Truss → ℕ → ℕ
 lesser x c = min (linkResistance x c) (strutResistance x c)
 
--- the answer, in tenths: each tenth from 1.0 to 2.5, the limits of (6.7N), is tried; the one whose lesser resistance is greatest, the
--- smallest on a tie
+-- the answer, in tenths: each tenth from 1.0 to 2.5, the limits of (6.7N), is tried, 10 and the 15 that follow; the one whose lesser
+-- resistance is greatest, the smallest on a tie
 unfoldable pub strutCotangent : Truss → ℕ
 strutCotangent x = firstGreatest (lesser x) 10 15
 
