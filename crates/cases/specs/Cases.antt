@@ -86,11 +86,6 @@ abbrev strutLine : ℕ → ℕ → ℕ → ℕ → Listed
 strutLine cotangent resistance v3 v6 =
     linkedLine (face 1358 (pos 257986051)) (face 419 (pos 6312569)) 86851 450 1500 cotangent resistance (0 ∷ 0 ∷ v3 ∷ 0 ∷ 0 ∷ v6 ∷ [])
 
--- the same under M −1, where the bottom is compressed
-abbrev below : ℕ → ℕ → ℕ → Listed
-below cotangent resistance v6 =
-    linkedLine (face 419 (pos 6312569)) (face 1358 (pos 257986051)) 14090 50 1500 cotangent resistance (0 ∷ 1 ∷ 0 ∷ 0 ∷ 0 ∷ v6 ∷ [])
-
 abbrev checks : Section → Load → Listed → CheckRow
 checks s l lists = record { section = s; load = l; lists = lists }
 
@@ -251,7 +246,8 @@ checkRows =
     ∷ checks (withLinks (linksWith 60 300) (one 250 500 25 400)) (load (pos 0) (pos 0) (pos 78260))
     (linkedLine (face 1957 (pos 209799372)) (face 797 (pos 17807973)) 68559 400 1500 25 78260 (0 ∷ 1 ∷ 1 ∷ 0 ∷ 0 ∷ 0 ∷ []))
     -- request 3: the bottom compressed, where dm is 50
-    ∷ checks (withLinks (linksWith 101 37) A) (load (pos 0) (negℤ (pos 1)) (pos 0)) (below 13 68895 0)
+    ∷ checks (withLinks (linksWith 101 37) A) (load (pos 0) (negℤ (pos 1)) (pos 0))
+    (linkedLine (face 419 (pos 6312569)) (face 1358 (pos 257986051)) 14090 50 1500 13 68895 (0 ∷ 1 ∷ 0 ∷ 0 ∷ 0 ∷ 0 ∷ []))
     -- request 3: the smallest cotangent on a tie
     ∷ checks (withLinks (linksWith 312 365) (one 200 300 35 250)) (load (pos 0) (pos 0) (pos 0))
     (linkedLine (face 1595 (pos 110898695)) (face 433 (pos 5197986)) 46831 250 1500 23 192327 (0 ∷ 1 ∷ 0 ∷ 0 ∷ 0 ∷ 1 ∷ []))

@@ -9,6 +9,7 @@ use Rattle.section.specs.Section.{absent}
 use Rattle.links.specs.declared.Truss.{Truss}
 use Rattle.links.specs.Links.{strutCotangent, trussResistance}
 use Rattle.clauses.specs.declared.linked.LinkReport.{LinkReport}
+use Rattle.clauses.specs.declared.Verdict.the-variants.{NotReached}
 use Rattle.clauses.specs.Verdicts.{numberOf, sixth}
 
 -- what 6.2.3 and 9.2.2 ask of a section with these links, dm being the mean depth of the tension layers
@@ -26,7 +27,7 @@ linkReport x «V» = record { cotangent = strutCotangent x; resistance = trussRe
 
 -- without links or without tension layers verdict six is 2, and cotangent and resistance are 0
 abbrev pub noLinkReport : LinkReport
-noLinkReport = record { cotangent = 0; resistance = 0; verdict = 2 }
+noLinkReport = record { cotangent = 0; resistance = 0; verdict = numberOf NotReached }
 
 unfoldable pub linkedReport : Design → Links → ℤ → ℕ → ℕ → LinkReport
 linkedReport x k «V» As dm = cond (reachesLinks k As) (linkReport (trussOf x k dm) «V») noLinkReport

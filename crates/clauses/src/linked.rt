@@ -1,4 +1,5 @@
 // What Check says of the links: 6.2.3 and 9.2.2, document 02, ticket 3.
+use super::Verdict;
 use super::numbers::verdict_number;
 use super::verdicts::judge;
 use links::Truss;
@@ -38,13 +39,13 @@ fn present_links(x: Truss, v: i64) -> LinkReport
 }
 
 // Without links or without tension layers.
-fn no_links() -> LinkReport
+fn no_link_report() -> LinkReport
     ensures { λ r. ⌜ r ≡ noLinkReport ⌝ }
 {
     LinkReport {
         cotangent: 0,
         resistance: 0,
-        verdict: 2,
+        verdict: verdict_number(Verdict::NotReached),
     }
 }
 
@@ -54,10 +55,10 @@ pub fn check_links(x: Design, k: Links, v: i64, area: u64, dm: u64) -> LinkRepor
     ensures { λ r. ⌜ r ≡ linkedReport x k v area dm ⌝ }
 {
     if k.present == 0 {
-        return no_links();
+        return no_link_report();
     }
     if area < 1 {
-        return no_links();
+        return no_link_report();
     }
     let truss = Truss {
         b: x.b,

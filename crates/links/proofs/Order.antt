@@ -1,9 +1,10 @@
 -- With every tenth the links resist no less, the strut no more, and one comparison says which of the two resists less. Assumes nothing.
 use Prim.Native.Nat.{ℕ, _+_, _-_, _*_, _≤_, _<_}
+use mathlib.Core.Path.{_≡_}
 use native.Mathlib.Nat.{le-refl, le-of-lt, mul-le-mul, mul-le-mul-left}
 use native.Mathlib.Omega.{arith}
 use Rattle.arith.proofs.Floor.{quotients}
-use Rattle.arith.proofs.Fraction.{exchange}
+use Rattle.arith.proofs.Fraction.{exchange, sides}
 use Rattle.links.specs.declared.Truss.{Truss}
 use Rattle.links.specs.Links.{linkResistance, strutResistance}
 use Rattle.links.specs.Code.Ranges.{TrussBounds}
@@ -17,12 +18,13 @@ falls-sides k c d low h =
     let cross : d * (c * c + 100) ≤ c * (d * d + 100) = omega (arith, exchange h hundred) in
     omega (arith, mul-le-mul-left (125000 * k) cross)
 
--- (6.8) and (6.9) without rounding, with v for 250 − fck and w for c² + 100
-less-sides : (a s b v g p dm c w : ℕ) → 25 * a * s * w ≤ 6 * b * v * g * p → 9 * a * dm * s * c * (125000 * w) ≤ 27 * b * dm * v * g * c * (10000 * p)
-less-sides a s b v g p dm c w h = omega (arith, mul-le-mul-left (45000 * dm * c) h)
+-- (6.8) and (6.9) without rounding, brought to one divisor, are so many times the two sides of the comparison, with v for 250 − fck and w for
+-- c² + 100
+links-times : (a s dm c w : ℕ) → 9 * a * dm * s * c * (125000 * w) ≡ 45000 * dm * c * (25 * a * s * w)
+links-times a s dm c w = omega arith
 
-more-sides : (a s b v g p dm c w : ℕ) → 6 * b * v * g * p ≤ 25 * a * s * w → 27 * b * dm * v * g * c * (10000 * p) ≤ 9 * a * dm * s * c * (125000 * w)
-more-sides a s b v g p dm c w h = omega (arith, mul-le-mul-left (45000 * dm * c) h)
+strut-times : (b v g p dm c : ℕ) → 27 * b * dm * v * g * c * (10000 * p) ≡ 45000 * dm * c * (6 * b * v * g * p)
+strut-times b v g p dm c = omega arith
 
 module _ (x : Truss) (w : TrussBounds x) where
   abbrev pub steel : ℕ
@@ -47,13 +49,19 @@ module _ (x : Truss) (w : TrussBounds x) where
       rw (strut-is x c weak (omega arith), strut-is x d weak (omega arith))
       (quotients _ _ (omega arith) (omega arith) (falls-sides (27 * x .b * x .dm * (250 - x .fck) * x .g) c d low h))
 
+  -- by the comparison, whichever of the two is the lesser
+  links-side : (c : ℕ) → 9 * x .area * x .dm * x .s * c * (125000 * (c * c + 100)) ≡ 45000 * x .dm * c * (steel * (c * c + 100))
+  links-side c = links-times (x .area) (x .s) (x .dm) c (c * c + 100)
+
+  strut-side : (c : ℕ) → 27 * x .b * x .dm * (250 - x .fck) * x .g * c * (10000 * x .spacing) ≡ 45000 * x .dm * c * concrete
+  strut-side c = strut-times (x .b) (250 - x .fck) (x .g) (x .spacing) (x .dm) c
+
   pub links-less : (c : ℕ) → 1 ≤ c → steel * (c * c + 100) ≤ concrete → linkResistance x c ≤ strutResistance x c
   links-less c h less =
       rw (link-is x c (w .spacing-low) h, strut-is x c weak h)
-      (quotients _ _ spaced (omega arith) (less-sides (x .area) (x .s) (x .b) (250 - x .fck) (x .g) (x .spacing) (x .dm) c (c * c + 100) less))
+      (quotients _ _ spaced (omega arith) (sides _ _ (mul-le-mul-left (45000 * x .dm * c) less) (links-side c) (strut-side c)))
 
   pub strut-less : (c : ℕ) → 1 ≤ c → concrete < steel * (c * c + 100) → strutResistance x c ≤ linkResistance x c
   strut-less c h more =
       rw (link-is x c (w .spacing-low) h, strut-is x c weak h)
-      (quotients _ _ (omega arith) spaced
-      (more-sides (x .area) (x .s) (x .b) (250 - x .fck) (x .g) (x .spacing) (x .dm) c (c * c + 100) (le-of-lt more)))
+      (quotients _ _ (omega arith) spaced (sides _ _ (mul-le-mul-left (45000 * x .dm * c) (le-of-lt more)) (strut-side c) (links-side c)))

@@ -26,8 +26,8 @@ use Rattle.record.specs.declared.fields.Number.{Number}
 use Rattle.record.specs.declared.fields.Field.{Field}
 use Rattle.record.specs.declared.fields.Field.the-variants.{Must, May, LinkPair, LayerAt, Unused}
 use Rattle.record.specs.Bytes.{numberAt, bytesOf, signed, unsigned}
-use Rattle.record.specs.Map.{stands, offset, recordLength, fieldedTo, onlyFields, completeTo, complete}
-use Rattle.record.specs.Fields.{width, fieldOf, linkBit, layerBit, hasField, mustStand, isNumber, missing}
+use Rattle.record.specs.Map.{stands, offset, recordLength, onlyFields, completeTo, complete}
+use Rattle.record.specs.Fields.{width, fieldOf, linkBit, layerBit, mustStand, isNumber, missing}
 use Rattle.record.specs.Contents.{numberOf, linksAt, linksIn, layerAt, layersTo, filled, sectionWith, loadWith, sectionOf, loadOf}
 use Rattle.record.specs.Layout.{valueOf, fieldBytes, writes, mapOf, fieldsTo, fields, recordOf}
 use Rattle.record.specs.Refusals.{mapIn, writeTests}
@@ -228,21 +228,9 @@ module _ (s : Section) (l : Load) (q : List ℕ) where
           ∙ ih ∙ take-all j (c .layers) (omega arith) ∙ sym (take-all (suc j) (c .layers) (omega arith))
 
   -- the tests of the map and the length
-  fielded-back : (k : ℕ) → k ≤ width → fieldedTo M k ≡ true
-  unfolding fieldedTo
-  fielded-back zero h = refl
-  fielded-back (suc k) h = and-true (go (fieldOf k) (stands-written c links l k h)) (fielded-back k (le-of-lt h))
-    where
-      go : (y : Field) → stands M k ≡ writes c links l y → hasField y || not (stands M k) ≡ true
-      go (Must x) e = refl
-      go (May x d) e = refl
-      go LinkPair e = refl
-      go (LayerAt j) e = refl
-      go Unused e = ap not e
-
   only-fields-back : onlyFields M ≡ true
   unfolding onlyFields
-  only-fields-back = and-true (eq-eqb (M / 2 ^ width) 0 (div-eq-of-lt (map-small c links l))) (fielded-back width (le-refl width))
+  only-fields-back = eq-eqb (M / 2 ^ width) 0 (div-eq-of-lt (map-small c links l))
 
   complete-to-back : (k : ℕ) → k ≤ width → completeTo M k ≡ true
   unfolding completeTo

@@ -39,13 +39,6 @@ linkBit = 7
 abbrev pub layerBit : ℕ → ℕ
 layerBit j = 8 + j
 
-abbrev pub hasField : Field → Bool
-hasField (Must x) = true
-hasField (May x d) = true
-hasField LinkPair = true
-hasField (LayerAt j) = true
-hasField Unused = false
-
 abbrev pub mustStand : Field → Bool
 mustStand (Must x) = true
 mustStand (May x d) = false

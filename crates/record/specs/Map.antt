@@ -2,7 +2,7 @@
 use Prim.Native.Nat.{ℕ, zero, suc, _+_, _*_, _/_, _%_, _^_}
 use mathlib.Core.Bool.{Bool, true, cond, not, _&&_, _||_}
 use lib.Dec.{eqb}
-use Rattle.record.specs.Fields.{width, fieldOf, hasField, mustStand}
+use Rattle.record.specs.Fields.{width, fieldOf, mustStand}
 
 -- does bit k of the map m stand?
 abbrev pub stands : ℕ → ℕ → Bool
@@ -26,14 +26,9 @@ unfoldable pub mapWith : (ℕ → Bool) → ℕ → ℕ
 mapWith p zero = 0
 mapWith p (suc k) = mapWith p k + cond (p k) (2 ^ k) 0
 
--- every bit below k that stands has a field
-unfoldable pub fieldedTo : ℕ → ℕ → Bool
-fieldedTo m zero = true
-fieldedTo m (suc k) = (hasField (fieldOf k) || not (stands m k)) && fieldedTo m k
-
--- only bits stand that have a field: no bit from the table's width on, and of its own none that has no field
+-- only bits stand that have a field: every bit of the table has one, and none from its width on
 unfoldable pub onlyFields : ℕ → Bool
-onlyFields m = eqb (m / 2 ^ width) 0 && fieldedTo m width
+onlyFields m = eqb (m / 2 ^ width) 0
 
 -- the bits below k that must stand do
 unfoldable pub completeTo : ℕ → ℕ → Bool

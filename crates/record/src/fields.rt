@@ -46,6 +46,7 @@ fn low_field(k: u32) -> Field
         4 => Field::May(Number::Axial, 0),
         5 => Field::May(Number::Moment, 0),
         6 => Field::May(Number::Shear, 0),
+        // Bit 7: the `requires` leaves no other.
         _ => Field::LinkPair,
     }
 }

@@ -15,6 +15,7 @@ use section::Layer;
 use section::Links;
 use section::Load;
 use section::Section;
+use section::refusals::no_links;
 use section::refusals::record_refusal;
 ghost use mathlib.Core.Bool.{true};
 ghost use mathlib.Core.Path.{_≡_};
@@ -74,11 +75,7 @@ fn links_of(s: &[u8], map: u32) -> Links
             spacing: p.second,
         }
     } else {
-        Links {
-            present: 0,
-            area: 0,
-            spacing: 0,
-        }
+        no_links()
     }
 }
 
@@ -163,11 +160,7 @@ fn refuse(number: u64, bytes: usize) -> Reading
         width: 0,
         height: 0,
         grade: Grade { fck: 0, fyk: 0 },
-        links: Links {
-            present: 0,
-            area: 0,
-            spacing: 0,
-        },
+        links: no_links(),
         count: 0,
     };
     let load = Load { n: 0, m: 0, v: 0 };

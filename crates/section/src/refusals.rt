@@ -13,7 +13,7 @@ ghost use mathlib.Core.Path.{_≡_};
 ghost use Prim.Native.Nat.{_<_, _≤_};
 ghost use lib.ListN.{getD, take};
 ghost use Rattle.arith.specs.Chain.{orElse, firstFailing};
-ghost use Rattle.section.specs.Section.{layersOf, counted, noLayer, all, depthOk, areaOk, countedLinks, linksOf, linkAreaOk, linkSpacingOk};
+ghost use Rattle.section.specs.Section.{layersOf, counted, noLayer, all, depthOk, areaOk, noLinks, countedLinks, linksOf, linkAreaOk, linkSpacingOk};
 ghost use Rattle.section.specs.Load.{forceOk};
 ghost use Rattle.section.specs.Refusals.{layerTests, sectionTests, loadTests, linkTests, loadLinkTests, accepted, refusalNumber};
 ghost use Rattle.section.specs.Code.Usable.{PromisedSection};
@@ -149,16 +149,22 @@ fn load_refusal(l: Load) -> u8
     0
 }
 
+pub fn no_links() -> Links
+    ensures { λ r. ⌜ r ≡ noLinks ⌝ }
+{
+    Links {
+        present: 0,
+        area: 0,
+        spacing: 0,
+    }
+}
+
 // The links as they count: those that are present, or none.
 pub fn counted_links(k: Links) -> Links
     ensures { λ r. ⌜ r ≡ countedLinks k ⌝ }
 {
     if k.present == 0 {
-        Links {
-            present: 0,
-            area: 0,
-            spacing: 0,
-        }
+        no_links()
     } else {
         Links {
             present: 1,

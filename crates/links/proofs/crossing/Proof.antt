@@ -33,11 +33,9 @@ fails {steel} {concrete} {c} {last} e w = record {
   low = w .low;
   high = omega (arith, w .high);
   below = w .below;
-  above = λ t l k. by-last t (omega arith) (λ here. subst (λ (t : ℕ). concrete < steel * (t * t + 100)) (sym here) e) (λ less. w .above t l less);
+  above = λ t l k. let up-to : t ≤ c = omega arith in
+      ⊎-elim (λ here. subst (λ (t : ℕ). concrete < steel * (t * t + 100)) (sym here) e) (w .above t l) (eq-or-lt-of-le up-to);
 }
-  where
-    by-last : {Q : Type 0} (t : ℕ) → t ≤ c → (t ≡ c → Q) → (t < c → Q) → Q
-    by-last t h same less = ⊎-elim same less (eq-or-lt-of-le h)
 
 next : {steel concrete c last : ℕ} (t : Bool) → 10 ≤ c → leb (steel * (c * c + 100)) concrete ≡ t → Last steel concrete c last
     → Last steel concrete (c + 1) (cond t c last)

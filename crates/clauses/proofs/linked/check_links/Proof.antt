@@ -14,21 +14,21 @@ use Rattle.clauses.proofs.linked.check_links.Tie as tie
 present : (c : tie.Else1) → absent (c .before .before .args .k) ≡ false
 present c = ne-eqb (c .before .before .args .k .present) 0 (λ e. omega arith)
 
-no-links-requires : tie.Need-no-links-requires
-no-links-requires c κs = search needs
+no-link-report-requires : tie.Need-no-link-report-requires
+no-link-report-requires c κs = search needs
 
 returns : tie.Need-returns
 unfolding linkedReport
-returns c = simp (c .no-links .ensures, c .before .if1 .taken)
+returns c = simp (c .no-link-report .ensures, c .before .if1 .taken)
 
-no-links-requires-2 : tie.Need-no-links-requires-2
-no-links-requires-2 c κs = search needs
+no-link-report-requires-2 : tie.Need-no-link-report-requires-2
+no-link-report-requires-2 c κs = search needs
 
 returns-2 : tie.Need-returns-2
 unfolding linkedReport
 returns-2 c =
     let e = c .before .before in
-    simp (c .no-links2 .ensures, present e, lt-leb 1 (e .before .before .args .area) (omega arith))
+    simp (c .no-link-report2 .ensures, present e, lt-leb 1 (e .before .before .args .area) (omega arith))
 
 cast-t8 : tie.Need-cast-t8
 cast-t8 c = search needs
@@ -66,9 +66,9 @@ pub check-links-spec : {M : Type 1} → statement M
 check-links-spec =
     tie.close
     (tie.spec
-    no-links-requires
+    no-link-report-requires
     returns
-    no-links-requires-2
+    no-link-report-requires-2
     returns-2
     cast-t8
     cast-t9

@@ -34,11 +34,15 @@ returns c =
     ap₂ linksWith (c .pair-at .ensures .0) (c .pair-at .ensures .1) ∙ ap (linksAt xs) (o .field-offset .ensures)
     ∙ sym (ap (λ (b : Bool). cond b (linksAt xs (offset (s .args .map) linkBit)) noLinks) t)
 
+no-links-requires : tie.Need-no-links-requires
+no-links-requires c κs = search needs
+
 returns-2 : tie.Need-returns-2
 returns-2 c =
-    let s = c .before .before .before in
-    let t = sym (c .before .bit-stands .ensures) ∙ c .if1 .left in
-    sym (ap (λ (b : Bool). cond b (linksAt (now (s .args .s)) (offset (s .args .map) linkBit)) noLinks) t)
+    let e = c .before in
+    let s = e .before .before .before in
+    let t = sym (e .before .bit-stands .ensures) ∙ e .if1 .left in
+    c .no-links .ensures ∙ sym (ap (λ (b : Bool). cond b (linksAt (now (s .args .s)) (offset (s .args .map) linkBit)) noLinks) t)
 
 pub links-of-spec : {M : Type 1} → statement M
-links-of-spec = tie.close (tie.spec bit-stands-requires field-offset-requires pair-at-requires returns returns-2)
+links-of-spec = tie.close (tie.spec bit-stands-requires field-offset-requires pair-at-requires no-links-requires returns returns-2)
