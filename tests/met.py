@@ -149,11 +149,17 @@ def cotangent_turns(seen, load, report):
         yield f"cotangent {tenths}", report.cotangent == tenths
 
 
+def class_turns(seen):
+    """The class, whose factors of the stress block enter every depth and moment."""
+    for fck in second.CLASSES:
+        yield f"fck {fck}", seen.fck == fck
+
+
 def turns(section, load, report):
     """The names of all turns that an accepted record meets."""
     seen = second.as_compressed(section, load.m)
     area = sum(layer.area for layer in second.counted(seen))
-    found = [*first_verdict_turns(load, report), *bending_turns(seen, load, report),
+    found = [*class_turns(seen), *first_verdict_turns(load, report), *bending_turns(seen, load, report),
              ("25 times all areas is b·h", 25 * area == seen.width * seen.height)]
     if report.area:
         found += [*shear_turns(seen, load, report), *steel_turns(seen, load, report)]

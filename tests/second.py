@@ -1064,6 +1064,13 @@ def link_record_rows():
     ]
 
 
+def block_rows():
+    """Ticket 5: 80 times the depth factor and 1,000 times the strength factor of each class."""
+    above_50 = {55: (63, 975), 60: (62, 950), 70: (60, 900), 80: (58, 850), 90: (56, 800)}
+    return [(f"fck {fck}: the block's figures", (80 * depth_factor(fck), 1_000 * strength_factor(fck)),
+             above_50.get(fck, (64, 1_000))) for fck in CLASSES]
+
+
 def refusal_rows():
     """The cases of the section tests, and the list printed in 'The list'."""
     def refusal(**change):
@@ -1107,7 +1114,7 @@ def main():
     """Print every reference case; exit status 1 where one differs."""
     failed = 0
     rows = (equilibrium_rows() + both_faces_rows() + clause_rows() + link_rows() + link_verdict_rows()
-            + link_refusal_rows() + link_record_rows() + refusal_rows() + sequence_rows())
+            + link_refusal_rows() + link_record_rows() + block_rows() + refusal_rows() + sequence_rows())
     for name, computed, expected in rows:
         same = computed == expected
         failed += not same

@@ -34,12 +34,8 @@ module _ (k : ℕ) {class : Class} (row : find k table ≡ Found class) where
   at-most : (a b : ℕ → Class → ℕ) → T (every (passes (λ k c. leb (a k c) (b k c))) table) → a k class ≤ b k class
   at-most a b all = leb→le (a k class) (b k class) (at-class (λ k c. leb (a k c) (b k c)) all)
 
-  class-high : k ≤ 90
+  pub class-high : k ≤ 90
   class-high = at-most (λ k c. k) (λ k c. 90) tt
-
-pub row-high : (fck : ℤ) {class : Class} → rowOf fck ≡ Found class → natAbs fck ≤ 90
-row-high (pos k) row = class-high k row
-row-high (negsuc k) row = absurd (let z : _≡_ {A = ℕ} 0 1 = cc in omega arith)
 
 -- a bound that every steel of the range passes
 at-steel : (a b : ℕ → ℕ) (y : ℕ) → T (allBelow (λ (k : ℕ). leb (a (400 + k)) (b (400 + k))) 201) → 400 ≤ y → y ≤ 600 → a y ≤ b y

@@ -1,11 +1,14 @@
--- What the code computes is what the formulas say, at every strength that it meets: one computed test for each letter.
--- The factors stand in `persistent` only. Assumes nothing.
+-- What the code computes is what the formulas say. L and f: of a row with the block's factors, which are exact. g and s: at every
+-- strength that is met, by one computed test each. The partial factors stand in `persistent` only. Assumes nothing.
 use Prim.Native.Nat.{ℕ, _-_, _*_, _/_, _≤_, _<_}
-use mathlib.Core.Bool.{cond}
-use mathlib.Core.Path.{_≡_}
+use mathlib.Core.Bool.{Bool, true, false, cond}
+use mathlib.Core.Path.{_≡_, sym, ap, _∙_}
+use native.Mathlib.Nat.{div-one}
 use native.Mathlib.Omega.{arith}
 use lib.Dec.{T, leb, eqb, eqb→eq}
-use Rattle.arith.specs.Fraction.{whole, ratio, _-ᶠ_, _*ᶠ_, _/ᶠ_, _÷ᶠ_, floor, roundedDown}
+use Rattle.arith.specs.Fraction.{Fraction, Proper, whole, ratio, _-ᶠ_, _*ᶠ_, _/ᶠ_, _÷ᶠ_, _≤ᶠ_, Same, floor, roundedDown}
+use Rattle.arith.proofs.Fraction.{proper, ≤ᶠ-trans, same-most, whole-mono}
+use Rattle.arith.proofs.Quotient.{rounded-same}
 use Rattle.arith.proofs.Computed.{allBelow, below}
 use Rattle.materials.specs.Situation.{persistent}
 use Rattle.materials.specs.Strength.{depthFactor, strengthFactor, L, f, g, s}
@@ -21,25 +24,11 @@ abbrev γs : ℕ
 agree : (a b : ℕ → ℕ) (n k : ℕ) → T (allBelow (λ (k : ℕ). eqb (a k) (b k)) n) → k < n → a k ≡ b k
 agree a b n k t h = eqb→eq (a k) (b k) (below (λ (k : ℕ). eqb (a k) (b k)) n k t h)
 
-abbrev L-code : ℕ → ℕ
-L-code k = cond (leb k 50) 64 ((370 - k) / 5)
-
-abbrev f-code : ℕ → ℕ
-f-code k = cond (leb k 50) (1000 * k / γc) (1000 * k * (250 - k) / (200 * γc))
-
 abbrev g-code : ℕ → ℕ
 g-code k = 1000 * k / γc
 
 abbrev s-code : ℕ → ℕ
 s-code k = 10000 * k / γs
-
-pub L-is : (k : ℕ) → k ≤ 90 → L-code k ≡ L k
-unfolding whole _-ᶠ_ _*ᶠ_ _/ᶠ_ floor roundedDown depthFactor L
-L-is k h = agree L-code L 91 k tt (omega arith)
-
-pub f-is : (k : ℕ) → k ≤ 90 → f-code k ≡ f persistent k
-unfolding whole ratio _-ᶠ_ _*ᶠ_ _/ᶠ_ _÷ᶠ_ floor roundedDown strengthFactor f
-f-is k h = agree f-code (f persistent) 91 k tt (omega arith)
 
 pub g-is : (k : ℕ) → k ≤ 90 → g-code k ≡ g persistent k
 unfolding whole ratio _*ᶠ_ _÷ᶠ_ floor roundedDown g
@@ -48,3 +37,43 @@ g-is k h = agree g-code (g persistent) 91 k tt (omega arith)
 pub s-is : (k : ℕ) → k ≤ 600 → s-code k ≡ s persistent k
 unfolding whole _÷ᶠ_ floor roundedDown s
 s-is k h = agree s-code (s persistent) 601 k tt (omega arith)
+
+-- ---- L and f
+
+-- what holds up to fck 50 and above it holds of the factor
+either : (P : Fraction → Type 0) (t : Bool) {a b : Fraction} → P a → P b → P (cond t a b)
+either P true below above = below
+either P false below above = above
+
+depth-proper : (k : ℕ) → Proper (depthFactor k)
+unfolding depthFactor
+depth-proper k = either Proper (leb k 50) (search proper) (search proper)
+
+strength-proper : (k : ℕ) → Proper (strengthFactor k)
+unfolding strengthFactor
+strength-proper k = either Proper (leb k 50) (search proper) (search proper)
+
+strength-most : (k : ℕ) → strengthFactor k ≤ᶠ whole 1
+unfolding whole _-ᶠ_ _/ᶠ_ strengthFactor
+strength-most k = either (λ x. x ≤ᶠ whole 1) (leb k 50) (omega arith) (omega arith)
+
+-- a row's l is L
+pub L-is : (k l : ℕ) → Same (whole l) (whole 80 *ᶠ depthFactor k) → l ≡ L k
+unfolding whole L
+L-is k l same = sym (rounded-same {m = 1} l (search (proper, depth-proper)) (omega arith) (record { same = sym (same .same) }) ∙ div-one l)
+
+-- a row's strength factor is at most 1,
+pub eta-high : (k n : ℕ) → Same (whole n) (whole 1000 *ᶠ strengthFactor k) → n ≤ 1000
+eta-high k n same =
+    let most : whole n ≤ᶠ whole 1000 *ᶠ whole 1 =
+    ≤ᶠ-trans (search (proper, strength-proper)) (same-most same) (whole-mono 1000 (strength-most k))
+    in
+    unfold whole _*ᶠ_ in omega arith
+
+-- and what it makes of fck is f
+pub f-is : (k n : ℕ) → Same (whole n) (whole 1000 *ᶠ strengthFactor k) → n * k / γc ≡ f persistent k
+unfolding whole ratio _*ᶠ_ _÷ᶠ_ f
+f-is k n same =
+    sym
+    (rounded-same {m = γc} (n * k) (omega (arith, strength-proper k)) (omega arith)
+    (record { same = omega (arith, ap (λ (t : ℕ). t * k) (same .same)) }))

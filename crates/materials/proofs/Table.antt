@@ -58,3 +58,8 @@ negative-row (negsuc k) h = refl
 pub natural-row : (fck : ℤ) → pos 0 ≤ℤ fck → find (natAbs fck) table ≡ rowOf fck
 natural-row (pos k) h = refl
 natural-row (negsuc k) h = absurd (h .le)
+
+-- a class that was found by an integer is found by its magnitude
+pub class-row : (fck : ℤ) {class : Class} → rowOf fck ≡ Found class → find (natAbs fck) table ≡ Found class
+class-row (pos k) row = row
+class-row (negsuc k) row = absurd (let z : _≡_ {A = ℕ} 0 1 = cc in omega arith)

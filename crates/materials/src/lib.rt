@@ -1,10 +1,13 @@
 // Concrete and steel: document 01, "Materials". This is the part that is exchanged country by country.
 ghost use Prim.Native.Nat.{_≤_};
+ghost use mathlib.Core.Bool.{true};
 ghost use mathlib.Core.Path.{_≡_};
 ghost use Rattle.arith.specs.Chain.{firstFailing};
-ghost use Rattle.materials.specs.Table.{table, find, rowOf};
+ghost use Rattle.arith.specs.Fraction.{Same, whole, _*ᶠ_};
+ghost use Rattle.materials.specs.declared.Row.the-variants.{Found};
+ghost use Rattle.materials.specs.Table.{table, find, rowOf, inTable};
 ghost use Rattle.materials.specs.Situation.{persistent};
-ghost use Rattle.materials.specs.Strength.{f, g, L, s};
+ghost use Rattle.materials.specs.Strength.{depthFactor, strengthFactor, f, g, s};
 ghost use Rattle.materials.specs.Answer.{numbers, materialsOf, refusalNumber, gradeTests, ExactBlock, Promised};
 
 // What a section asks of the materials: the concrete class and the steel by their strengths, in N/mm², as a record carries them.
@@ -53,6 +56,35 @@ pub enum Row {
     Missing,
 }
 
+// The factors of the stress block, as the rows below have them.
+struct Block {
+    // L: 80 times the depth factor λ
+    l: u64,
+    // the strength factor η, in thousandths
+    eta: u64,
+}
+
+// A class by its fck, and its factors.
+struct BlockRow(u64, Block);
+
+// The factors of 3.1.7(3), a row for each class (02's ticket 5); at the end of each row λ and η themselves.
+const BLOCKS: [BlockRow; 14] = [
+    BlockRow(12, Block { l: 64, eta: 1000 }), // λ 0.8, η 1.0
+    BlockRow(16, Block { l: 64, eta: 1000 }), // λ 0.8, η 1.0
+    BlockRow(20, Block { l: 64, eta: 1000 }), // λ 0.8, η 1.0
+    BlockRow(25, Block { l: 64, eta: 1000 }), // λ 0.8, η 1.0
+    BlockRow(30, Block { l: 64, eta: 1000 }), // λ 0.8, η 1.0
+    BlockRow(35, Block { l: 64, eta: 1000 }), // λ 0.8, η 1.0
+    BlockRow(40, Block { l: 64, eta: 1000 }), // λ 0.8, η 1.0
+    BlockRow(45, Block { l: 64, eta: 1000 }), // λ 0.8, η 1.0
+    BlockRow(50, Block { l: 64, eta: 1000 }), // λ 0.8, η 1.0
+    BlockRow(55, Block { l: 63, eta: 975 }), // λ 0.7875, η 0.975
+    BlockRow(60, Block { l: 62, eta: 950 }), // λ 0.775, η 0.95
+    BlockRow(70, Block { l: 60, eta: 900 }), // λ 0.75, η 0.9
+    BlockRow(80, Block { l: 58, eta: 850 }), // λ 0.725, η 0.85
+    BlockRow(90, Block { l: 56, eta: 800 }), // λ 0.7, η 0.8
+];
+
 // The partial factors of Table 2.1N: γc in tenths and γs in hundredths.
 const GAMMA_C: u64 = 15;
 
@@ -92,6 +124,24 @@ fn row_of(fck: i64) -> Row
     }
 }
 
+// The factors of a class, from its row. The loop goes on after that row: so the compiled code jumps to the row by fck, where a loop that
+// stops would lay all rows out on the stack.
+fn block_of(fck: u64) -> Block
+    requires { ⌜ inTable (find fck table) ≡ true ⌝ }
+    ensures depth { λ r. ⌜ Same (whole (r .l)) (whole 80 *ᶠ depthFactor fck) ⌝ }
+    ensures strength { λ r. ⌜ Same (whole (r .eta)) (whole 1000 *ᶠ strengthFactor fck) ⌝ }
+{
+    let rows = BLOCKS;
+    let mut block = Block { l: 0, eta: 0 };
+    for i in 0..14 {
+        let row = rows[i];
+        if row.0 == fck {
+            block = row.1;
+        }
+    }
+    block
+}
+
 // g: 100·fck/γc.
 fn concrete_strength(fck: u64) -> u64
     requires { ⌜ fck ≤ 90 ⌝ }
@@ -100,24 +150,12 @@ fn concrete_strength(fck: u64) -> u64
     1000 * fck / GAMMA_C
 }
 
-// f: g with the strength factor of 3.1.7(3), which is (250 − fck)/200 above fck 50.
-fn block_strength(fck: u64) -> u64
-    requires { ⌜ fck ≤ 90 ⌝ }
+// f: the strength factor times 100·fck/γc. With η in thousandths and γc in tenths no power of ten is left.
+fn block_strength(fck: u64, eta: u64) -> u64
+    requires { ⌜ (fck ≤ 90) × Same (whole eta) (whole 1000 *ᶠ strengthFactor fck) ⌝ }
     ensures { λ r. ⌜ r ≡ f persistent fck ⌝ }
 {
-    if fck <= 50 {
-        1000 * fck / GAMMA_C
-    } else {
-        1000 * fck * (250 - fck) / (200 * GAMMA_C)
-    }
-}
-
-// L: 80 times the depth factor of 3.1.7(3).
-fn block_depth(fck: u64) -> u64
-    requires { ⌜ fck ≤ 90 ⌝ }
-    ensures { λ r. ⌜ r ≡ L fck ⌝ }
-{
-    if fck <= 50 { 64 } else { (370 - fck) / 5 }
+    eta * fck / GAMMA_C
 }
 
 // s: 100·fyk/γs.
@@ -130,16 +168,17 @@ fn steel_strength(fyk: u64) -> u64
 
 // All of them, of a class and a steel that passed their tests.
 fn design_values(fck: u64, fyk: u64, class: Class) -> Materials
-    requires { ⌜ (fck ≤ 90) × (fyk ≤ 600) ⌝ }
+    requires { ⌜ (find fck table ≡ Found class) × (fyk ≤ 600) ⌝ }
     ensures { λ r. ⌜ r ≡ numbers persistent fck fyk class ⌝ }
 {
+    let block = block_of(fck);
     Materials {
         fck: fck,
         fyk: fyk,
         t: class.t,
         e: class.e,
-        l: block_depth(fck),
-        f: block_strength(fck),
+        l: block.l,
+        f: block_strength(fck, block.eta),
         g: concrete_strength(fck),
         s: steel_strength(fyk),
     }

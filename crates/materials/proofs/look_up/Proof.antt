@@ -10,7 +10,8 @@ use Rattle.arith.proofs.Range.{natural}
 use Rattle.materials.specs.Table.{rowOf}
 use Rattle.materials.specs.declared.Grade.{Grade}
 use Rattle.materials.specs.declared.Row.the-variants.{Found}
-use Rattle.materials.proofs.Promise.{row-high, clauses}
+use Rattle.materials.proofs.Promise.{clauses}
+use Rattle.materials.proofs.Table.{class-row}
 use borrow.Author.Needs.{needs}
 use Rattle.materials.proofs.look_up.Statement.{statement}
 use Rattle.materials.proofs.look_up.Tie as tie
@@ -70,7 +71,7 @@ module _ (c : tie.After-magnitude2) where
 
 design-values-requires : tie.Need-design-values-requires
 design-values-requires c κs =
-    (rw (fck-is c) (row-high (grade (start c) .fck) (class-is c)), rw (fyk-is c) (natural 400 600 (grade (start c) .fyk) (steel-is c) .high))
+    (rw (fck-is c) (class-row (grade (start c) .fck) (class-is c)), rw (fyk-is c) (natural 400 600 (grade (start c) .fyk) (steel-is c) .high))
 
 returns : tie.Need-returns
 returns c =
