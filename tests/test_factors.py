@@ -2,7 +2,6 @@
 
 import re
 import unittest
-from decimal import Decimal
 from fractions import Fraction
 
 import second
@@ -31,4 +30,4 @@ class Factors(unittest.TestCase):
             with self.subTest(fck=fck):
                 factors = [second.depth_factor(int(fck)), second.strength_factor(int(fck))]
                 self.assertEqual([Fraction(int(depth), 80), Fraction(int(strength), 1_000)], factors)
-                self.assertEqual([Fraction(Decimal(number)) for number in printed], factors)
+                self.assertEqual(printed, [str(float(factor)) for factor in factors])

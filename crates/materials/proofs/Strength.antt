@@ -1,15 +1,15 @@
 -- What the code computes is what the formulas say. L and f: of a row with the block's factors, which are exact. g and s: at every
 -- strength that is met, by one computed test each. The partial factors stand in `persistent` only. Assumes nothing.
-use Prim.Native.Nat.{ℕ, _-_, _*_, _/_, _≤_, _<_}
-use mathlib.Core.Bool.{Bool, true, false, cond}
+use Prim.Native.Nat.{ℕ, _*_, _/_, _≤_, _<_}
 use mathlib.Core.Path.{_≡_, sym, ap, _∙_}
 use native.Mathlib.Nat.{div-one}
 use native.Mathlib.Omega.{arith}
 use lib.Dec.{T, leb, eqb, eqb→eq}
-use Rattle.arith.specs.Fraction.{Fraction, Proper, whole, ratio, _-ᶠ_, _*ᶠ_, _/ᶠ_, _÷ᶠ_, _≤ᶠ_, Same, floor, roundedDown}
-use Rattle.arith.proofs.Fraction.{proper, ≤ᶠ-trans, same-most, whole-mono}
+use Rattle.arith.specs.Fraction.{Proper, whole, ratio, _-ᶠ_, _*ᶠ_, _/ᶠ_, _÷ᶠ_, Same, floor, roundedDown}
+use Rattle.arith.proofs.Fraction.{proper}
 use Rattle.arith.proofs.Quotient.{rounded-same}
 use Rattle.arith.proofs.Computed.{allBelow, below}
+use Rattle.arith.proofs.Test.{by-cond}
 use Rattle.materials.specs.Situation.{persistent}
 use Rattle.materials.specs.Strength.{depthFactor, strengthFactor, L, f, g, s}
 
@@ -40,22 +40,13 @@ s-is k h = agree s-code (s persistent) 601 k tt (omega arith)
 
 -- ---- L and f
 
--- what holds up to fck 50 and above it holds of the factor
-either : (P : Fraction → Type 0) (t : Bool) {a b : Fraction} → P a → P b → P (cond t a b)
-either P true below above = below
-either P false below above = above
-
 depth-proper : (k : ℕ) → Proper (depthFactor k)
 unfolding depthFactor
-depth-proper k = either Proper (leb k 50) (search proper) (search proper)
+depth-proper k = by-cond Proper (leb k 50) (λ e. search proper) (λ e. search proper)
 
 strength-proper : (k : ℕ) → Proper (strengthFactor k)
 unfolding strengthFactor
-strength-proper k = either Proper (leb k 50) (search proper) (search proper)
-
-strength-most : (k : ℕ) → strengthFactor k ≤ᶠ whole 1
-unfolding whole _-ᶠ_ _/ᶠ_ strengthFactor
-strength-most k = either (λ x. x ≤ᶠ whole 1) (leb k 50) (omega arith) (omega arith)
+strength-proper k = by-cond Proper (leb k 50) (λ e. search proper) (λ e. search proper)
 
 -- a row's l is L
 pub L-is : (k l : ℕ) → Same (whole l) (whole 80 *ᶠ depthFactor k) → l ≡ L k
@@ -64,11 +55,8 @@ L-is k l same = sym (rounded-same {m = 1} l (search (proper, depth-proper)) (ome
 
 -- a row's strength factor is at most 1,
 pub eta-high : (k n : ℕ) → Same (whole n) (whole 1000 *ᶠ strengthFactor k) → n ≤ 1000
-eta-high k n same =
-    let most : whole n ≤ᶠ whole 1000 *ᶠ whole 1 =
-    ≤ᶠ-trans (search (proper, strength-proper)) (same-most same) (whole-mono 1000 (strength-most k))
-    in
-    unfold whole _*ᶠ_ in omega arith
+unfolding whole _-ᶠ_ _*ᶠ_ _/ᶠ_ strengthFactor
+eta-high k n = by-cond (λ x. Same (whole n) (whole 1000 *ᶠ x) → n ≤ 1000) (leb k 50) (λ e same. omega arith) (λ e same. omega arith)
 
 -- and what it makes of fck is f
 pub f-is : (k n : ℕ) → Same (whole n) (whole 1000 *ᶠ strengthFactor k) → n * k / γc ≡ f persistent k

@@ -64,7 +64,7 @@ struct Block {
     eta: u64,
 }
 
-// A class by its fck, and its factors.
+// A class by its fck, and its factors: two structs, so that a row is one line.
 struct BlockRow(u64, Block);
 
 // The factors of 3.1.7(3), a row for each class (02's ticket 5); at the end of each row λ and η themselves.
