@@ -6,13 +6,23 @@
 #include <stdbool.h>
 #include "bench.h"
 
-/* What the formulas use of the concrete and the steel: T, E, L, f, g and s of document 01. */
-struct materials { int64_t t, e, l, f, g, s; };
+/* What the formulas use of the concrete and the steel: T, E, L, f, g and s of document 01, and CRd,c of 6.2.2 in hundredths, 12 or 15. */
+struct materials { int64_t t, e, l, f, g, s, crd; };
 
-/* Tests 3 and 4: the number of the one that fails, or 0. */
-static inline int look_up(int64_t fck, int64_t fyk, struct materials *m)
+/* What is divided by the partial factors, gamma_c in tenths and gamma_s in hundredths; CRd,c is 0.18 / gamma_c. The factors are constants where this
+ * is called, so that the compiler leaves no division. */
+static inline void divide_by(int64_t gamma_c, int64_t gamma_s, const salwoerk_grade *grade, struct materials *m)
 {
-    switch (fck) {
+    m->g = 1000 * grade->fck / gamma_c;
+    m->f = grade->fck <= 50 ? m->g : 5 * grade->fck * (250 - grade->fck) / gamma_c;
+    m->s = 10000 * grade->fyk / gamma_s;
+    m->crd = 180 / gamma_c;
+}
+
+/* Tests 3, 4 and 32: the number of the one that fails, or 0. */
+static inline int look_up(const salwoerk_grade *grade, struct materials *m)
+{
+    switch (grade->fck) {
     case 12: m->t = 16; m->e = 700; break;
     case 16: m->t = 19; m->e = 700; break;
     case 20: m->t = 22; m->e = 700; break;
@@ -29,11 +39,13 @@ static inline int look_up(int64_t fck, int64_t fyk, struct materials *m)
     case 90: m->t = 50; m->e = 520; break;
     default: return 3;
     }
-    if (fyk < 400 || fyk > 600) return 4;
-    m->g = fck * 200 / 3;
-    m->f = fck <= 50 ? m->g : fck * (250 - fck) / 3;
-    m->l = fck <= 50 ? 64 : (370 - fck) / 5;
-    m->s = fyk * 2000 / 23;
+    m->l = grade->fck <= 50 ? 64 : (370 - grade->fck) / 5;
+    if (grade->fyk < 400 || grade->fyk > 600) return 4;
+    switch (grade->situation) {
+    case SALWOERK_PERSISTENT: divide_by(15, 115, grade, m); break;
+    case SALWOERK_ACCIDENTAL: divide_by(12, 100, grade, m); break;
+    default: return 32;
+    }
     return 0;
 }
 
@@ -42,7 +54,7 @@ static inline int accept(const salwoerk_section *s, struct materials *m)
 {
     if (s->width < 50 || s->width > 2000) return 1;
     if (s->height < 50 || s->height > 2000) return 2;
-    int k = look_up(s->grade.fck, s->grade.fyk, m);
+    int k = look_up(&s->grade, m);
     if (k) return k;
     if (s->count < 1 || s->count > 16) return 5;
     for (size_t i = 0; i < s->count; i++)
@@ -178,13 +190,13 @@ static void start(void)
         factors[dm - 200] = (uint16_t)(1000 + halved_square(dm, 200000000, 1000));
 }
 
-static inline int64_t shear_resistance(int64_t b, int64_t h, int64_t fck, int64_t g, int64_t n, int64_t area, int64_t dm)
+static inline int64_t shear_resistance(int64_t b, int64_t h, int64_t fck, const struct materials *m, int64_t n, int64_t area, int64_t dm)
 {
     if (!area) return 0;
-    int64_t k = dm < 200 ? 2000 : factors[dm - 200], concrete = b * dm, cap = g * b * h / 500;
+    int64_t k = dm < 200 ? 2000 : factors[dm - 200], concrete = b * dm, cap = m->g * b * h / 500;
     int64_t r = 50 * area > concrete ? cube_root(1, 2000000000 * fck, 5646) : cube_root(concrete, 100000000000 * area * fck, 5646);
     int64_t q = square_root(1000, k * k * k * fck, 26832);
-    int64_t by_ratio = 12 * k * r / 100, least = 35 * q, v = by_ratio > least ? by_ratio : least, c = n < cap ? n : cap;
+    int64_t by_ratio = m->crd * k * r / 100, least = 35 * q, v = by_ratio > least ? by_ratio : least, c = n < cap ? n : cap;
     int64_t sum = v * concrete / 1000000 + floor_div(15 * c * dm, 100 * h);
     return sum < 0 ? 0 : sum;
 }
@@ -237,7 +249,7 @@ static inline salwoerk_report report(const struct face *top, const struct face *
         all += shown->layers[i].area;
     }
     int64_t dm = area ? moment / area : 0;
-    int64_t vrd = shear_resistance(b, h, s->grade.fck, m->g, l->n, area, dm);
+    int64_t vrd = shear_resistance(b, h, s->grade.fck, m, l->n, area, dm);
     bool linked = s->links.present && area;
     struct strut strut = linked ? strut_for(&s->links, b, dm, s->grade.fck, m) : (struct strut){ 0, 0 };
     return (salwoerk_report){

@@ -13,6 +13,7 @@ int main(void)
     a.height = 500;
     a.grade.fck = 30;
     a.grade.fyk = 500;
+    a.grade.situation = SALWOERK_PERSISTENT; /* as SALWOERK_SECTION_INIT has it; or SALWOERK_ACCIDENTAL */
     a.count = 1;
     a.layers[0].depth = 450;
     a.layers[0].area = 1500;

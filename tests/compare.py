@@ -35,7 +35,7 @@ from tally import Tally, check_accuracy, check_stated
 
 PATIENCE = 20         # seconds for one run of the program
 PIPE_PAUSE = 0.0005   # seconds between two pieces of a slow input
-DAMAGED_RUNS = 60     # runs of records damaged at random
+DAMAGED_RUNS = 80     # runs of records damaged at random
 
 
 # --- running the list program -----------------------------------------------
@@ -91,8 +91,8 @@ def compare_list(tally, run, answers, output):
 def compare_run(tally, run, output, said, status):
     """One run against the second implementation and the refusals 01 states."""
     answers = list(second.list_answers(run.data))
-    for _, _, report in answers:
-        tally.coverage.note(report)
+    for _, subject, report in answers:
+        tally.coverage.note(report, subject)
     if run.refusals is not None:
         tally.compare(f"{run.label}: second.py beside the paper", run.data[:400].hex(),
                       run.refusals, tuple(report.refusal for _, _, report in answers))

@@ -8,8 +8,8 @@ from itertools import combinations
 from typing import NamedTuple, Optional
 
 import second
-from samples import I64_MAX, SIXTEEN, U32_MAX, linked, record
-from second import EXAMPLE, LINK_BIT, LINKED_EXAMPLE, Load
+from samples import I64_MAX, I64_MIN, SIXTEEN, U32_MAX, linked, record
+from second import ACCIDENTAL, ACCIDENTAL_EXAMPLE, EXAMPLE, LINK_BIT, LINKED_EXAMPLE, SITUATION_BIT, Load
 
 ROOM = second.INPUT_ROOM
 MAP_0 = bytes(4)
@@ -29,8 +29,15 @@ def fields_of(data):
     return second.fields_read(data, second.bits_that_stand(data))
 
 
+def with_signed(whole, **signed):
+    """The record with these signed fields, by name, in range or not."""
+    bits = {field.name: field.bit for field in second.FIELDS}
+    added = {bits[name]: second.signed_bytes(value) for name, value in signed.items()}
+    return second.assemble({**fields_of(whole), **added})
+
+
 # Every field that a record can have: with links N is 0, so the writer alone never writes it.
-FULL = second.assemble({**fields_of(record(linked(SIXTEEN), Load(0, -2_000, 3_000))), 4: second.signed_bytes(0)})
+FULL = with_signed(record(linked(SIXTEEN), Load(0, -2_000, 3_000)), n=0, situation=ACCIDENTAL)
 assert len(FULL) == second.LONGEST_RECORD
 
 
@@ -41,7 +48,7 @@ def choices(bits):
 
 def cut_runs():
     """Cut at every byte: 20 below 4 bytes, 22 below the length."""
-    for whole in (EXAMPLE, LINKED_EXAMPLE, FULL):
+    for whole in (EXAMPLE, LINKED_EXAMPLE, ACCIDENTAL_EXAMPLE, FULL):
         for size in range(len(whole) + 1):
             refusal = 20 if size < 4 else 22 if size < len(whole) else 0
             last = (refusal,) if size else ()  # nothing left is no record
@@ -97,7 +104,7 @@ def gap_runs():
 
 
 def present_zero_runs():
-    """'a present 0 is read too': each choice of N, M, V there with what its absence means."""
+    """'a present 0 is read too': each choice of N, M, V and situation there with what its absence means."""
     optional = {field.bit: second.signed_bytes(field.missing) for field in second.OPTIONAL_FIELDS}
     for whole in (EXAMPLE, LINKED_EXAMPLE):  # with links an N that is there is no 29 as long as it is 0
         always = {bit: value for bit, value in fields_of(whole).items() if bit not in optional}
@@ -108,9 +115,8 @@ def present_zero_runs():
 
 def with_links(area, spacing, **signed):
     """The example with a link field of these numbers, in range or not; `signed` adds fields by name."""
-    bits = {field.name: field.bit for field in second.FIELDS}
-    added = {bits[name]: second.signed_bytes(value) for name, value in signed.items()}
-    return second.assemble({**fields_of(EXAMPLE), LINK_BIT: second.pair_bytes(area, spacing), **added})
+    fields = fields_of(with_signed(EXAMPLE, **signed))
+    return second.assemble({**fields, LINK_BIT: second.pair_bytes(area, spacing)})
 
 
 def link_runs():
@@ -126,15 +132,33 @@ def link_runs():
     yield Run("28 before 29", with_links(101, 24, n=1) + EXAMPLE, (28, 0))
 
 
-def link_bit_runs():
-    """The map's tests come before those of links, and bit 7 alone is no longer 21."""
-    bare = second.assemble({LINK_BIT: bytes(8)})
-    yield Run("bit 7 alone", bare + EXAMPLE, (23, 0))
-    yield Run("bit 7 alone, cut", EXAMPLE + bare[:-1], (0, 22))
-    yield Run("22 before 27", EXAMPLE + with_links(0, 0)[:-1], (0, 22))
-    for bit in second.FORBIDDEN_BITS:
-        spoiled = {**fields_of(with_links(0, 0)), bit: bytes(8)}
-        yield Run(f"bit {bit} before 27", EXAMPLE + second.assemble(spoiled) + EXAMPLE, (0, 21))
+def situation_runs():
+    """Bit 24 as a field (02, request 8), some of it 1 or 2 in one byte alone: after 32 the list goes on."""
+    for situation in (I64_MIN, -2, -1, 0, 1, 2, 3, 255, 256, 257, 2**32 + 1, 2**32 + 2, 2**56, 2**57, I64_MAX):
+        refusal = 0 if situation in (1, 2) else 32
+        yield Run(f"situation {situation}", with_signed(EXAMPLE, situation=situation) + EXAMPLE, (refusal, 0))
+    no_layer = {bit: value for bit, value in fields_of(EXAMPLE).items() if bit not in second.LAYER_BITS}
+    for situation, refusal in ((0, 32), (1, 5), (2, 5), (3, 32)):
+        spoiled = with_signed(second.assemble(no_layer), situation=situation)
+        yield Run(f"no layer, situation {situation}", spoiled + EXAMPLE, (refusal, 0))
+    for fyk in (399, 601):
+        yield Run(f"4 before 32, fyk {fyk}", with_signed(EXAMPLE, fyk=fyk, situation=0) + EXAMPLE, (4, 0))
+    yield Run("32 before 8", with_signed(EXAMPLE, n=I64_MAX, situation=3) + EXAMPLE, (32, 0))
+    yield Run("32 before 27", with_links(0, 200, situation=0) + EXAMPLE, (32, 0))
+    yield Run("one situation after the other", (ACCIDENTAL_EXAMPLE + EXAMPLE) * 3, (0,) * 6)
+
+
+def optional_bit_runs():
+    """The map's tests come before those of links and situation; bit 7 or 24 alone is no longer 21."""
+    for bit, number, spoiled in ((LINK_BIT, 27, with_links(0, 0)),
+                                 (SITUATION_BIT, 32, with_signed(EXAMPLE, situation=0))):
+        bare = second.assemble({bit: bytes(8)})
+        yield Run(f"bit {bit} alone", bare + EXAMPLE, (23, 0))
+        yield Run(f"bit {bit} alone, cut", EXAMPLE + bare[:-1], (0, 22))
+        yield Run(f"22 before {number}", EXAMPLE + spoiled[:-1], (0, 22))
+        for unknown in second.FORBIDDEN_BITS:
+            worse = second.assemble({**fields_of(spoiled), unknown: bytes(8)})
+            yield Run(f"bit {unknown} before {number}", EXAMPLE + worse + EXAMPLE, (0, 21))
 
 
 def size_runs():
@@ -164,5 +188,5 @@ def slow_runs():
 def all_runs():
     """Every fixed run of this file."""
     for group in (cut_runs, forbidden_bit_runs, missing_bit_runs, leftover_runs, gap_runs,
-                  present_zero_runs, link_runs, link_bit_runs, size_runs, slow_runs):
+                  present_zero_runs, link_runs, situation_runs, optional_bit_runs, size_runs, slow_runs):
         yield from group()

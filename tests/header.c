@@ -12,20 +12,21 @@
 TAKES(salwoerk_layer, 8);
 LIES(salwoerk_layer, depth, 0, 4);
 LIES(salwoerk_layer, area, 4, 4);
-TAKES(salwoerk_grade, 16);
+TAKES(salwoerk_grade, 24);
 LIES(salwoerk_grade, fck, 0, 8);
 LIES(salwoerk_grade, fyk, 8, 8);
+LIES(salwoerk_grade, situation, 16, 8);
 TAKES(salwoerk_links, 16);
 LIES(salwoerk_links, present, 0, 8);
 LIES(salwoerk_links, area, 8, 4);
 LIES(salwoerk_links, spacing, 12, 4);
-TAKES(salwoerk_section, 184);
+TAKES(salwoerk_section, 192);
 LIES(salwoerk_section, layers, 0, 128);
 LIES(salwoerk_section, width, 128, 8);
 LIES(salwoerk_section, height, 136, 8);
-LIES(salwoerk_section, grade, 144, 16);
-LIES(salwoerk_section, links, 160, 16);
-LIES(salwoerk_section, count, 176, 8);
+LIES(salwoerk_section, grade, 144, 24);
+LIES(salwoerk_section, links, 168, 16);
+LIES(salwoerk_section, count, 184, 8);
 TAKES(salwoerk_load, 24);
 LIES(salwoerk_load, n, 0, 8);
 LIES(salwoerk_load, m, 8, 8);
@@ -48,17 +49,17 @@ LIES(salwoerk_report, area, 56, 8);
 LIES(salwoerk_report, cotangent, 64, 8);
 LIES(salwoerk_report, link_resistance, 72, 8);
 LIES(salwoerk_report, verdicts, 80, 48);
-TAKES(salwoerk_reading, 224);
+TAKES(salwoerk_reading, 232);
 LIES(salwoerk_reading, refusal, 0, 8);
 LIES(salwoerk_reading, length, 8, 8);
-LIES(salwoerk_reading, section, 16, 184);
-LIES(salwoerk_reading, load, 200, 24);
+LIES(salwoerk_reading, section, 16, 192);
+LIES(salwoerk_reading, load, 208, 24);
 TAKES(salwoerk_written, 16);
 LIES(salwoerk_written, refusal, 0, 8);
 LIES(salwoerk_written, length, 8, 8);
 
-_Static_assert(SALWOERK_VERSION == 30000, "3.0.0");
-_Static_assert(SALWOERK_RECORD_ROOM == 196, "a map, seven numbers, the links and sixteen layers");
+_Static_assert(SALWOERK_VERSION == 40000, "4.0.0");
+_Static_assert(SALWOERK_RECORD_ROOM == 204, "a map, seven numbers, the links, sixteen layers and the situation");
 
 /* ---- the calls */
 static int passed, failed;
@@ -95,6 +96,13 @@ static salwoerk_section linked_a(uint32_t area, uint32_t spacing)
     return a;
 }
 
+static salwoerk_section a_in(int64_t situation)
+{
+    salwoerk_section a = section_a();
+    a.grade.situation = situation;
+    return a;
+}
+
 /* Sixteen layers, and no two numbers alike; the links are there for whoever sets present. */
 static salwoerk_section distinct_section(void)
 {
@@ -103,6 +111,7 @@ static salwoerk_section distinct_section(void)
     s.height = 1702;
     s.grade.fck = 35;
     s.grade.fyk = 503;
+    s.grade.situation = SALWOERK_ACCIDENTAL;
     s.links.area = 907;
     s.links.spacing = 311;
     s.count = SALWOERK_LAYERS;
@@ -121,7 +130,7 @@ static uint8_t *put(uint8_t *at, uint64_t number, int bytes)
     return at;
 }
 
-/* Map and fields of a record, written here by the scope document and request 3 alone; its length. */
+/* Map and fields of a record, written here by the scope document and requests 3 and 8 alone; its length. */
 static size_t record_of(uint32_t map, const salwoerk_section *s, salwoerk_load load, uint8_t *bytes)
 {
     int64_t fields[] = { s->width, s->height, s->grade.fck, s->grade.fyk, load.n, load.m, load.v };
@@ -130,6 +139,7 @@ static size_t record_of(uint32_t map, const salwoerk_section *s, salwoerk_load l
         if (map >> i & 1) at = put(at, (uint64_t)fields[i], 8);
     if (map >> 7 & 1) at = put(put(at, s->links.area, 4), s->links.spacing, 4);
     for (size_t i = 0; i < s->count; i++) at = put(put(at, s->layers[i].depth, 4), s->layers[i].area, 4);
+    if (map >> 24 & 1) at = put(at, (uint64_t)s->grade.situation, 8);
     return (size_t)(at - bytes);
 }
 
@@ -139,7 +149,8 @@ static void require_read(salwoerk_reading r, size_t length, const salwoerk_secti
     require("read", r.refusal == 0 && r.length == length);
     require("layers", !memcmp(r.section.layers, s->layers, sizeof s->layers) && r.section.count == s->count);
     require("width, height", r.section.width == s->width && r.section.height == s->height);
-    require("fck, fyk", r.section.grade.fck == s->grade.fck && r.section.grade.fyk == s->grade.fyk);
+    require("fck, fyk, situation", r.section.grade.fck == s->grade.fck && r.section.grade.fyk == s->grade.fyk
+        && r.section.grade.situation == s->grade.situation);
     require("N, M, V", r.load.n == load.n && r.load.m == load.m && r.load.v == load.v);
     if (s->links.present)
         require("links", r.section.links.present == 1 && r.section.links.area == s->links.area && r.section.links.spacing == s->links.spacing);
@@ -162,23 +173,30 @@ static void round_trip(const salwoerk_section *s, salwoerk_load load, uint32_t m
     require_read(salwoerk_read(buffer, sizeof buffer), length, s, load);
 }
 
-/* With N and without links, with links and without N, and with links and a present 0 for N, which is the longest record that is read. */
+/* With N and without links, with links and without N, and with links and a present 0 for N, which is the longest record that is read; each in the
+ * accidental situation, which stands in the record, and in the persistent one, which does not, but is read where it does. */
 static void records(void)
 {
     uint8_t longest[SALWOERK_RECORD_ROOM];
     salwoerk_section s = distinct_section();
-    salwoerk_load load = distinct_load;
-    round_trip(&s, load, 0x00FFFF7F);
-    s.links.present = 1;
-    load.n = 0;
-    round_trip(&s, load, 0x00FFFFEF);
-    require("the longest record", record_of(0x00FFFFFF, &s, load, longest) == sizeof longest);
-    require_read(salwoerk_read(longest, sizeof longest), sizeof longest, &s, load);
+    for (int64_t situation = SALWOERK_PERSISTENT; situation <= SALWOERK_ACCIDENTAL; situation++) {
+        uint32_t bit_24 = situation == SALWOERK_ACCIDENTAL ? 0x01000000 : 0;
+        salwoerk_load load = distinct_load;
+        s.grade.situation = situation;
+        s.links.present = 0;
+        round_trip(&s, load, 0x00FFFF7F | bit_24);
+        s.links.present = 1;
+        load.n = 0;
+        round_trip(&s, load, 0x00FFFFEF | bit_24);
+        require("the longest record", record_of(0x01FFFFFF, &s, load, longest) == sizeof longest);
+        require_read(salwoerk_read(longest, sizeof longest), sizeof longest, &s, load);
+    }
 }
+
+static const salwoerk_section zeros; /* static, so 0 in every field, the situation too */
 
 static int all_zeros(const salwoerk_reading *r)
 {
-    static const salwoerk_section zeros = SALWOERK_SECTION_INIT;
     return !memcmp(&r->section, &zeros, sizeof zeros) && !r->load.n && !r->load.m && !r->load.v;
 }
 
@@ -187,17 +205,20 @@ static void refused_reading(void)
     uint8_t bytes[SALWOERK_RECORD_ROOM];
     salwoerk_section s = distinct_section();
     salwoerk_load load = { 0, 700001, -80003 };
-    record_of(0x00FFFFFF, &s, load, bytes);
+    record_of(0x01FFFFFF, &s, load, bytes);
     salwoerk_reading r = salwoerk_read(bytes, sizeof bytes - 1);
     require("22 and zeros", r.refusal == SALWOERK_CUT_RECORD && r.length == 0 && all_zeros(&r));
-    bytes[0] = 1;
+    bytes[0] = 2;
     r = salwoerk_read(bytes, sizeof bytes);
     require("21 and zeros", r.refusal == SALWOERK_UNKNOWN_BIT && r.length == 0 && all_zeros(&r));
     s.links.area = 0;
-    r = salwoerk_read(bytes, record_of(0x00FFFFFF, &s, load, bytes));
+    r = salwoerk_read(bytes, record_of(0x01FFFFFF, &s, load, bytes));
     require("27 of a present area of 0, with its length and zeros", r.refusal == SALWOERK_LINK_AREA && r.length == sizeof bytes && all_zeros(&r));
+    s.grade.situation = 0;
+    r = salwoerk_read(bytes, record_of(0x01FFFFFF, &s, load, bytes));
+    require("32 of a present 0, with its length and zeros", r.refusal == SALWOERK_SITUATION && r.length == sizeof bytes && all_zeros(&r));
     s.width = 49;
-    r = salwoerk_read(bytes, record_of(0x00FFFFFF, &s, load, bytes));
+    r = salwoerk_read(bytes, record_of(0x01FFFFFF, &s, load, bytes));
     require("1 with its length and zeros", r.refusal == SALWOERK_WIDTH && r.length == sizeof bytes && all_zeros(&r));
 }
 
@@ -251,6 +272,66 @@ static void both_faces(void)
     turned = salwoerk_check(section_a(), load);
     require("12 of the other face, and zeros", turned.refusal == SALWOERK_ABOVE_RANGE && !turned.u && !turned.mrd && !turned.other_u
         && !turned.other_mrd);
+}
+
+/* The initializer is persistent and 0 in every other field. */
+static void initializer(void)
+{
+    salwoerk_section a = SALWOERK_SECTION_INIT;
+    require("the initializer is persistent", a.grade.situation == SALWOERK_PERSISTENT);
+    a.grade.situation = 0;
+    require("and else zeros", !memcmp(&a, &zeros, sizeof a));
+}
+
+/* Section A with links of 101 mm2 every 200 mm and the factors 1.2 and 1.0. */
+static void accidental(void)
+{
+    salwoerk_section a = linked_a(101, 200);
+    salwoerk_load load = { 0, 200000000, 80000 };
+    a.grade.situation = SALWOERK_ACCIDENTAL;
+    require("Find a depth, accidental", salwoerk_find_depth(a, 0).depth == 1250);
+    require("Moment at a depth, accidental", salwoerk_moment_at(a, 1250).moment == 300000000);
+    salwoerk_report r = salwoerk_check(a, load);
+    require("Check, accidental", r.refusal == 0 && r.u == 1250 && r.mrd == 300000000 && r.vrd == 108564 && r.dm == 450 && r.area == 1500);
+    require("Check, the other face, accidental", r.other_u == 405 && r.other_mrd == 7554140);
+    require("cotangent and link resistance, accidental", r.cotangent == 25 && r.link_resistance == 255656);
+    for (size_t i = 0; i < SALWOERK_VERDICTS; i++) require("six passes", r.verdicts[i] == SALWOERK_PASS);
+    load.m = 300000001;
+    load.v = -108565;
+    r = salwoerk_check(a, load);
+    require("one and three fail beyond", r.verdicts[0] == SALWOERK_FAIL && r.verdicts[2] == SALWOERK_FAIL && r.verdicts[5] == SALWOERK_PASS);
+}
+
+/* 32, after 4 and before 5, in every call that takes a section. */
+static void refused_situations(void)
+{
+    static const struct { int64_t situation; uint64_t refusal; } cases[] = {
+        { 0, SALWOERK_SITUATION }, { 1, SALWOERK_ACCEPTED }, { 2, SALWOERK_ACCEPTED }, { 3, SALWOERK_SITUATION }, { -1, SALWOERK_SITUATION },
+        { 257, SALWOERK_SITUATION }, { 0x100000002, SALWOERK_SITUATION }, { INT64_MIN, SALWOERK_SITUATION }, { INT64_MAX, SALWOERK_SITUATION },
+    };
+    uint8_t record[SALWOERK_RECORD_ROOM];
+    salwoerk_load load = { 0, 1, 0 };
+    for (size_t i = 0; i < sizeof cases / sizeof *cases; i++) {
+        uint64_t refusal = cases[i].refusal;
+        int zero = refusal != 0;
+        salwoerk_section a = a_in(cases[i].situation);
+        salwoerk_depth depth = salwoerk_find_depth(a, 0);
+        require("Find a depth, 32 and 0", depth.refusal == refusal && (depth.depth == 0) == zero);
+        salwoerk_moment moment = salwoerk_moment_at(a, 1250);
+        require("Moment at a depth, 32 and 0", moment.refusal == refusal && (moment.moment == 0) == zero);
+        salwoerk_report r = salwoerk_check(a, load);
+        require("Check, 32 and zeros", r.refusal == refusal && (r.u == 0) == zero && (r.mrd == 0) == zero && (r.vrd == 0) == zero);
+        salwoerk_written written = salwoerk_write(a, load, record, sizeof record);
+        require("Write, 32 and 0", written.refusal == refusal && (written.length == 0) == zero);
+        salwoerk_reading reading = salwoerk_read(record, record_of(0x0100012F, &a, load, record));
+        require("Read, 32 with its length", reading.refusal == refusal && reading.length == 60);
+        require("zeros where it is refused", all_zeros(&reading) == zero);
+    }
+    salwoerk_section none = a_in(0);
+    none.count = 0;
+    require("32 before 5", salwoerk_check(none, load).refusal == SALWOERK_SITUATION);
+    none.grade.fyk = 601;
+    require("4 before 32", salwoerk_check(none, load).refusal == SALWOERK_STEEL);
 }
 
 /* Section A with links: the cotangent in tenths, the resistance, and verdict six at the turn of each of its three conditions. */
@@ -350,11 +431,26 @@ static void list(void)
     require("the list", w.refusal == 0 && w.length == sizeof line - 1 && !memcmp(text, line, sizeof line - 1) && text[sizeof line - 1] == 0xA5);
 }
 
+/* Bit 24 in a list: the lines of an accidental section, of a situation that is none, and of one that is left out. */
+static void situations_in_a_list(void)
+{
+    static const char lines[] = "1 0 1250 300000000 108564 450 1500 0 0 0 0 0 2\n2 32 0 0 0 0 0 2 2 2 2 2 2\n"
+        "3 0 1358 257986051 86851 450 1500 0 0 0 0 0 2\n";
+    uint8_t records[3 * SALWOERK_RECORD_ROOM], text[SALWOERK_LIST_ROOM(sizeof records)];
+    salwoerk_load load = { 0, 200000000, 80000 };
+    salwoerk_section accidental = a_in(SALWOERK_ACCIDENTAL), none = a_in(3), persistent = section_a();
+    size_t length = record_of(0x0100016F, &accidental, load, records);
+    length += record_of(0x0100016F, &none, load, records + length);
+    length += record_of(0x0000016F, &persistent, load, records + length);
+    salwoerk_written w = salwoerk_list(records, length, text, sizeof text);
+    require("the situation in a list", w.refusal == 0 && w.length == sizeof lines - 1 && !memcmp(text, lines, sizeof lines - 1));
+}
+
 /* Each number has a text of its own, and what is none has the text of none. */
 static void texts(void)
 {
-    static const uint64_t refusals[] = { 0, 1, 2, 3, 4, 5, 6, 7, 8, 9, 10, 11, 12, 13, 20, 21, 22, 23, 25, 26, 27, 28, 29 };
-    static const uint64_t none[] = { 14, 19, 24, 30 };
+    static const uint64_t refusals[] = { 0, 1, 2, 3, 4, 5, 6, 7, 8, 9, 10, 11, 12, 13, 20, 21, 22, 23, 25, 26, 27, 28, 29, 32 };
+    static const uint64_t none[] = { 14, 19, 24, 30, 31, 33 };
     size_t count = sizeof refusals / sizeof *refusals;
     int alike = 0;
     for (size_t i = 0; i < count; i++) {
@@ -362,14 +458,17 @@ static void texts(void)
         for (size_t j = 0; j < i; j++) alike += !strcmp(salwoerk_refusal_text(refusals[i]), salwoerk_refusal_text(refusals[j]));
     }
     require("one text a refusal", !alike);
-    for (size_t i = 0; i < 4; i++) require("no refusal 14, 19, 24, 30", salwoerk_refusal_text(none[i]) == salwoerk_refusal_text(99));
+    for (size_t i = 0; i < sizeof none / sizeof *none; i++)
+        require("no refusal 14, 19, 24, 30, 31, 33", salwoerk_refusal_text(none[i]) == salwoerk_refusal_text(99));
     require("Table 3.1 behind 3", !strcmp(salwoerk_refusal_clause(SALWOERK_CONCRETE), "Table 3.1") && !*salwoerk_refusal_clause(SALWOERK_WIDTH));
+    require("Table 2.1N behind 32", !strcmp(salwoerk_refusal_clause(SALWOERK_SITUATION), "Table 2.1N"));
     require("verdict one is 6.1", !strcmp(salwoerk_verdict_clause(0), "6.1"));
     require("verdict five is 9.2.1.1(3)", !strcmp(salwoerk_verdict_clause(4), "9.2.1.1(3)") && *salwoerk_verdict_question(4));
     require("verdict six is 6.2.3", !strcmp(salwoerk_verdict_clause(5), "6.2.3") && *salwoerk_verdict_question(5));
     require("no seventh verdict", !*salwoerk_verdict_clause(6) && !*salwoerk_verdict_question(6));
     require("links with N are refused by no clause", !*salwoerk_refusal_clause(SALWOERK_LINKS_WITH_AXIAL_FORCE));
-    require("bit 7 is no unknown bit", !strstr(salwoerk_refusal_text(SALWOERK_UNKNOWN_BIT), "bit 7"));
+    require("bits 7 and 24 are no unknown bits", !strstr(salwoerk_refusal_text(SALWOERK_UNKNOWN_BIT), "7")
+        && !strstr(salwoerk_refusal_text(SALWOERK_UNKNOWN_BIT), "24"));
     require("verdicts in words", !strcmp(salwoerk_verdict_text(0), "pass") && !strcmp(salwoerk_verdict_text(1), "fail")
         && !strcmp(salwoerk_verdict_text(2), "not reached"));
 }
@@ -380,11 +479,15 @@ int main(void)
     refused_reading();
     answers();
     both_faces();
+    initializer();
+    accidental();
+    refused_situations();
     links();
     tie();
     present();
     refused_links();
     list();
+    situations_in_a_list();
     texts();
     printf("%d passed, %d failed\n", passed, failed);
     return failed != 0;

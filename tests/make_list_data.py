@@ -3,16 +3,17 @@
 
 The input is the 60-byte example of document 01, "The list", then records
 that meet every refusal after which a list goes on, with and without the links
-of request 3 of 02, and a 22 at the end.
+of request 3 of 02 and in both situations of request 8, and a 22 at the end.
 Both files come from the second implementation (second.py), which is written
 from the paper, and not from the program.
 """
 
 from pathlib import Path
 
-from second import (EXAMPLE, EXAMPLE_LIST, FAIL, LAYER_BITS, LINKED_EXAMPLE, MANDATORY_BITS, NO_LOAD,
-                    OPTIONAL_FIELDS, PASS, SECTION_A, SEQUENCES, TIE, UNREADABLE, Layer, Load, assemble,
-                    fields_written, layer_bytes, list_answers, list_text, section_of, signed_bytes, with_links)
+from second import (ACCIDENTAL_A, ACCIDENTAL_EXAMPLE, ACCIDENTAL_TIE, EXAMPLE, EXAMPLE_LIST, FAIL, HEADER,
+                    LAYER_BITS, LINKED_EXAMPLE, MANDATORY_BITS, NO_LOAD, OPTIONAL_FIELDS, PASS, SECTION_A,
+                    SEQUENCES, TIE, UNREADABLE, Layer, Load, assemble, fields_written, layer_bytes,
+                    list_answers, list_text, section_of, signed_bytes, with_links)
 
 CRATE = Path(__file__).resolve().parent.parent / "crates" / "check_list"
 
@@ -27,13 +28,22 @@ def with_layers(*layers):
     return record(section_of(300, 500, 30, 500, layers))
 
 
+def present(*names):
+    """Fields of these names that are there with what their absence means."""
+    return {field.bit: signed_bytes(field.missing) for field in OPTIONAL_FIELDS if field.name in names}
+
+
+def with_present(section, *names):
+    """A section under no load, and these fields nevertheless."""
+    return assemble({**fields_written(section, NO_LOAD), **present(*names)})
+
+
 def with_gaps():
     """Layers at the second and the last of their bits, and N, M and V present as 0."""
     fields = fields_written(SECTION_A, NO_LOAD)
     layer = fields.pop(LAYER_BITS[0])
     fields.update({LAYER_BITS[1]: layer, LAYER_BITS[-1]: layer_bytes(Layer(50, 600))})
-    fields.update({field.bit: signed_bytes(field.missing) for field in OPTIONAL_FIELDS})
-    return assemble(fields)
+    return assemble({**fields, **present(*Load._fields)})
 
 
 def without(bit):
@@ -70,12 +80,6 @@ def linked(area, spacing, load=NO_LOAD, section=SECTION_A):
     return record(with_links(section, area, spacing), load)
 
 
-def with_links_and_axial_zero():
-    """Links, and N present as 0: no 29."""
-    fields = fields_written(with_links(SECTION_A, 101, 200), NO_LOAD)
-    return assemble({**fields, **{field.bit: signed_bytes(field.missing) for field in OPTIONAL_FIELDS}})
-
-
 def with_link_verdict():
     """Records with links and their verdict six: each of its three conditions at both sides."""
     high = SECTION_A._replace(fck=90)
@@ -105,7 +109,7 @@ def with_link_verdict():
         (linked(500, 50, Load(0, 0, 1_399_680), high), PASS),
         (linked(500, 50, Load(0, 0, 1_399_681), high), FAIL),
         (record(TIE), FAIL),
-        (with_links_and_axial_zero(), PASS),
+        (with_present(with_links(SECTION_A, 101, 200), *Load._fields), PASS),  # N 0, so no 29
     ]
 
 
@@ -138,15 +142,60 @@ def refused():
     ]
 
 
+def accidental_with_line():
+    """Records checked in the accidental situation and the line of each after its number: verdicts turn."""
+    a = ACCIDENTAL_A
+    return [
+        (ACCIDENTAL_EXAMPLE, "0 1250 300000000 108564 450 1500 0 0 0 0 0 2"),
+        (record(a, Load(0, 300_000_000, -108_564)), "0 1250 300000000 108564 450 1500 0 0 0 0 0 2"),
+        (record(a, Load(0, 300_000_001, -108_565)), "0 1250 300000000 108564 450 1500 1 0 1 0 0 2"),
+        (record(a, Load(0, -7_554_140, 0)), "0 405 7554140 17613 50 1500 0 1 0 0 0 2"),
+        (record(a, Load(0, -7_554_141, 0)), "0 405 7554140 17613 50 1500 1 1 0 0 0 2"),
+        (record(a, Load(-749_400, 149_850_023, 0)), "0 1 150149976 7395 450 1500 1 0 0 0 0 2"),
+        (record(a, Load(-749_400, 149_850_024, 0)), "0 1 150149976 7395 450 1500 0 0 0 0 0 2"),
+        (record(a, Load(465_599, 0, 0)), "0 2025 355335000 171419 450 1500 0 0 0 0 0 2"),
+        (record(a, Load(465_600, 0, 0)), "0 2026 355387776 171420 450 1500 0 1 0 0 0 2"),
+        (record(a, Load(750_001, 0, 0)), "0 2500 375000000 209814 450 1500 0 1 0 0 0 2"),
+        (record(a, Load(3_105_000, 0, 1)), "0 5000 129000000 0 0 0 0 2 2 2 0 2"),
+        (record(a, fck=90), "0 595 321812497 156570 450 1500 0 0 0 0 0 2"),
+        (record(a, layers=(Layer(450, 300),)), "0 250 66000000 63491 450 300 0 0 0 0 0 2"),
+        (linked(101, 200, Load(0, 0, 255_656), a), "0 1250 300000000 108564 450 1500 0 0 1 0 0 0"),
+        (linked(101, 200, Load(0, 0, 255_657), a), "0 1250 300000000 108564 450 1500 0 0 1 0 0 1"),
+        (record(ACCIDENTAL_TIE), "0 1500 132985600 58538 250 1500 0 1 0 0 0 0"),
+    ]
+
+
+def situations_with_line():
+    """The same for a present 1, for 32 and what stands beside it, and for 11 and 12 when accidental."""
+    def line(number):
+        return f"{number} 0 0 0 0 0 2 2 2 2 2 2"
+
+    return [
+        (with_present(SECTION_A, "situation"), "0 1358 257986051 86851 450 1500 0 0 0 0 0 2"),
+        (record(situation=0), line(32)),
+        (record(situation=3), line(32)),
+        (record(situation=-1), line(32)),
+        (record(situation=2**32 + 2), line(32)),
+        (record(fyk=399, situation=0), line(4)),   # before 32
+        (record(situation=3, count=0), line(32)),  # before 5
+        (linked(0, 200, section=SECTION_A._replace(situation=0)), line(32)),  # before 27
+        (record(ACCIDENTAL_A, Load(-749_401, 0, 0)), line(11)),
+        (record(ACCIDENTAL_A, Load(3_105_001, 0, 0)), line(12)),
+    ]
+
+
 def main():
     """Write the two files, after a look at what they must have."""
-    verdicts = with_link_verdict()
-    data = EXAMPLE + b"".join(accepted() + [piece for piece, _ in verdicts] + refused()) + record()[:-1]
+    verdicts, lines = with_link_verdict(), accidental_with_line() + situations_with_line()
+    data = b"".join([EXAMPLE, *accepted(), *(piece for piece, _ in verdicts), *refused(),
+                     *(piece for piece, _ in lines), record()[:-1]])
     text = list_text(data)
     assert len(EXAMPLE) == 60
     assert text.startswith(EXAMPLE_LIST)
     for piece, sixth in verdicts:
         assert [report.verdicts[5] for _, _, report in list_answers(piece)] == [sixth], piece.hex()
+    for piece, line in lines:
+        assert list_text(piece) == f"{HEADER}1 {line}\n", piece.hex()
     met = {report.refusal for _, _, report in list_answers(data)}
     ended_by = {*UNREADABLE} - {22}
     assert met == {0, *SEQUENCES["Read a record"], *SEQUENCES["Check"]} - ended_by, met

@@ -1,7 +1,8 @@
 """What the compared records met: refusals, verdicts, and the turns of 01 and 02.
 
 A comparison that never met a refusal or a verdict has shown nothing about it,
-so each one that the papers make reachable has to be met at least once.
+so each one that the papers make reachable has to be met at least once, verdicts
+and turns in each situation of request 8 of 02.
 """
 
 from collections import Counter
@@ -77,14 +78,18 @@ def axial_turns(section, load):
 def shear_turns(seen, load, report):
     """The branches of 6.2.2, for a record with tension layers."""
     axial = second.axial_force_for_shear(seen, load.n)
-    size = second.size_factor(report.dm)
+    least = second.least_stress(seen, report.dm)
+    of_12, of_15 = (second.reinforced_stress(seen._replace(situation=situation), report.area, report.dm)
+                    for situation in (second.PERSISTENT, second.ACCIDENTAL))
+    by_steel = of_12 if seen.situation == second.PERSISTENT else of_15
     yield "|V| is VRd,c", abs(load.v) == report.vrd
     yield "|V| is VRd,c + 1", abs(load.v) == report.vrd + 1
     yield "VRd,c held at 0", report.vrd == 0
     yield "dm below 200", report.dm < 200
     yield "r without the area (50·As > b·dm)", 50 * report.area > seen.width * report.dm
-    yield "35·q decides", (second.shear_stress(seen, report.area, report.dm)
-                           == 35 * second.least_shear_root(size, seen.fck))
+    yield "12 or 15·K·r/100 decides", by_steel > least
+    yield "35·q decides", by_steel <= least
+    yield "35·q decides over 12·K·r/100 and not over 15·K·r/100", of_12 <= least < of_15
     yield "c is the cap", axial < load.n
     yield "c is the cap, fck above 50", axial < load.n and seen.fck > 50
     yield "c is negative", axial < 0
@@ -169,50 +174,74 @@ def turns(section, load, report):
     return found
 
 
+def presence_turns(subject):
+    """'a present 0 is read too', and a present 1 of the situation: what a record has without need."""
+    fields = second.fields_read(subject, second.bits_that_stand(subject))
+    for field in second.OPTIONAL_FIELDS:
+        yield f"a present {field.missing} is read: {field.name}", (
+            fields.get(field.bit) == second.signed_bytes(field.missing))
+
+
 class Coverage:
-    """Counts over every answer that was compared."""
+    """Counts over every answer that was compared; verdicts and turns of each situation."""
 
     def __init__(self):
         self.refusals = Counter()
-        self.verdicts = [Counter() for _ in REACHABLE]
-        self.turns = Counter()
+        self.verdicts = {situation: [Counter() for _ in REACHABLE] for situation in second.FACTORS}
+        self.turns = {situation: Counter() for situation in second.FACTORS}
+        self.calls = Counter()
 
-    def note(self, report):
-        """Count a list line."""
+    def note(self, report, subject):
+        """Count a list line of these bytes."""
         self.refusals[report.refusal] += 1
         if report.refusal == 0:
-            for counter, value in zip(self.verdicts, report.verdicts):
+            situation = second.read_record(subject).section.situation
+            for counter, value in zip(self.verdicts[situation], report.verdicts):
                 counter[value] += 1
+            for name, met in presence_turns(subject):
+                self.note_call(name, met)
 
     def note_turns(self, section, load, report):
         """Count where an accepted sample stands."""
         for name, met in turns(section, load, report):
-            self.turns[name] += met
+            self.turns[section.situation][name] += met
 
     def note_call(self, name, met):
-        """Count what one call of the library met."""
-        self.turns[name] += met
+        """Count what reading a record or one call of the library met, in either situation."""
+        self.calls[name] += met
 
     def note_axial_turns(self, section, load):
         """Count where N of a sample stands that is accepted, 11 or 12."""
         for name, met in axial_turns(section, load):
-            self.turns[name] += met
+            self.turns[section.situation][name] += met
+
+    def turn_names(self):
+        """Every turn that a record of either situation could have met."""
+        return tuple(dict.fromkeys(name for counter in self.turns.values() for name in counter))
 
     def never_met(self, refusals):
         """What had to be met and was not."""
         missing = [f"refusal {number}" for number in refusals if not self.refusals[number]]
-        missing += [f"verdict {place} of {value}"
-                    for place, values in enumerate(REACHABLE, 1) for value in values
-                    if not self.verdicts[place - 1][value]]
-        return missing + [name for name, times in self.turns.items() if not times]
+        for situation in second.FACTORS:
+            missing += [f"verdict {place} of {value}, situation {situation}"
+                        for place, values in enumerate(REACHABLE, 1) for value in values
+                        if not self.verdicts[situation][place - 1][value]]
+            missing += [f"{name}, situation {situation}" for name in self.turn_names()
+                        if not self.turns[situation][name]]
+        return missing + [name for name, times in self.calls.items() if not times]
 
     def table(self):
         """The counts as lines of text."""
         met = (f"{number}: {times}" for number, times in sorted(self.refusals.items()) if times)
         yield "refusal (0 is none): " + ", ".join(met)
-        yield "verdicts of accepted records    pass      fail  not reached"
-        for place, counter in enumerate(self.verdicts, 1):
-            yield f"  v{place}                     {counter[0]:11}{counter[1]:10}{counter[2]:13}"
-        yield "where the boundary and random records stand: N, then all else of those accepted, then calls with links"
-        for name, times in self.turns.items():
+        for situation, verdicts in self.verdicts.items():
+            accepted = sum(verdicts[0].values())
+            yield f"situation {situation}, {accepted:6} accepted    pass      fail  not reached"
+            for place, counter in enumerate(verdicts, 1):
+                yield f"  v{place}                     {counter[0]:11}{counter[1]:10}{counter[2]:13}"
+        yield "where the boundary and random records of situations 1 and 2 stand: N, then all else of those accepted"
+        for name in self.turn_names():
+            yield f"  {name}: " + ", ".join(str(counter[name]) for counter in self.turns.values())
+        yield "values that could be missing and are there, then calls of the library"
+        for name, times in self.calls.items():
             yield f"  {name}: {times}"

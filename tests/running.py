@@ -1,4 +1,4 @@
-"""What the tests of the commands share: how a command is run, and section A as text and as bytes, without links and with them."""
+"""What the tests of the commands share: how a command is run, and section A as text and bytes: plain, with links, accidental."""
 
 import subprocess
 import sys
@@ -31,6 +31,11 @@ SECTION_A_BYTES = bytes.fromhex(
 # The same with links of 101 mm² every 200 mm: bit 7 stands, and its field lies between V and the layer
 LINKED_A_TEXT = "300 500 30 500 0 200000000 80000 links=101/200 450/1500\n"
 LINKED_A_BYTES = bytes.fromhex("000001EF") + SECTION_A_BYTES[4:52] + bytes.fromhex("00000065" "000000C8") + SECTION_A_BYTES[52:]
+
+# The same without links in the accidental situation: bit 24 stands, and its field follows the layer
+ACCIDENTAL_A_TEXT = "300 500 30 500 0 200000000 80000 situation=accidental 450/1500\n"
+ACCIDENTAL_A_BYTES = bytes.fromhex("0100016F") + SECTION_A_BYTES[4:] + bytes.fromhex("0000000000000002")
+ACCIDENTAL_A_LINE = b"1 0 1250 300000000 108564 450 1500 0 0 0 0 0 2\n"
 
 
 def command(tool, *arguments):

@@ -13,7 +13,7 @@ import second
 from damaged import Run, fields_of
 from samples import (FAILINGS, I64_MAX, I64_MIN, M_MOST, Sample, last_spacing, least_link_area, linked, passes,
                      record, with_layer)
-from second import FAIL, LINK_BIT, NOT_REACHED, Layer, Links, Load
+from second import ACCIDENTAL, FAIL, LINK_BIT, NOT_REACHED, PERSISTENT, SITUATION_BIT, Layer, Links, Load
 
 
 def edged(rng, least, most):
@@ -66,6 +66,16 @@ def own_area(rng, section, layers):
     return layers[-1].area
 
 
+def either_situation(rng):
+    """Accidental one time in three."""
+    return rng.choice((PERSISTENT, PERSISTENT, ACCIDENTAL))
+
+
+def any_situation(rng):
+    """A situation of any number, in range or not."""
+    return rng.choice((-1, 0, 1, 2, 2, 3, rng.randint(I64_MIN, I64_MAX)))
+
+
 def random_section(rng):
     """A section that passes the section tests, often at a limit of its steel."""
     width, height = edged(rng, 50, 2_000), edged(rng, 50, 2_000)
@@ -73,7 +83,8 @@ def random_section(rng):
         width = 25 * rng.randint(2, 80)
     fyk = rng.choice((400, 500, 500, 600, rng.randint(400, 600)))
     layers = random_layers(rng, height)
-    section = second.section_of(width, height, rng.choice(second.CLASSES), fyk, layers)
+    section = second.section_of(width, height, rng.choice(second.CLASSES), fyk, layers,
+                                situation=either_situation(rng))
     turn = rng.choice((own_area, own_area, least_area, most_area))
     area = held(beside(rng, turn(rng, section, layers)), 1, 20_000)
     return with_layer(section, len(layers) - 1, area=area)
@@ -84,7 +95,8 @@ def lopsided_section(rng):
     width, height = rng.randint(50, 300), rng.randint(50, 400)
     cover = rng.randint(1, 3)
     layer = Layer(rng.choice((cover, height - cover)), rng.randint(1, 20_000))
-    return second.section_of(width, height, rng.choice(second.CLASSES), rng.randint(400, 600), [layer])
+    return second.section_of(width, height, rng.choice(second.CLASSES), rng.randint(400, 600), [layer],
+                             situation=either_situation(rng))
 
 
 # --- loads ------------------------------------------------------------------
@@ -205,7 +217,7 @@ def tie_sample(rng, label):
         width, height, sign = rng.randint(50, 400), rng.randint(60, 500), rng.choice((1, -1))
         depth = rng.randint(20, height - 20)
         section = second.section_of(width, height, rng.choice(second.CLASSES), rng.randint(400, 600),
-                                    [(depth, rng.randint(100, 3_000))])
+                                    [(depth, rng.randint(100, 3_000))], situation=either_situation(rng))
         dm = depth if sign > 0 else height - depth
         found = tie_links(rng, section, dm)
         if found:
@@ -214,12 +226,14 @@ def tie_sample(rng, label):
 
 
 def spoiled(rng, section, load):
-    """One test made to fail, any links, or one field replaced by any 64-bit number."""
+    """One test made to fail, any links, any situation, or one field replaced by any 64-bit number."""
     kind = rng.random()
     if kind < 0.5:
         return rng.choice(list(FAILINGS.values()))(section, load)
     if kind < 0.6:
         return section._replace(links=any_links(rng)), load
+    if kind < 0.7:
+        return section._replace(situation=any_situation(rng)), load
     value = rng.choice((rng.randint(I64_MIN, I64_MAX), rng.randint(-2_100, 2_100)))
     field = rng.choice([field.name for field in second.FIELDS])
     if field in load._fields:
@@ -281,21 +295,28 @@ def damaged_run(rng, records):
     return Run("damaged at random", bytes(data))
 
 
-def with_link_bit_turned(rng, data):
-    """The record with bit 7 of its map turned; one time in two its field comes or goes with it."""
+# Bits whose field comes or goes in a record that stays whole, and the bytes of such a field
+TURNED_BITS = {
+    LINK_BIT: lambda rng: second.link_bytes(any_links(rng)),
+    SITUATION_BIT: lambda rng: second.signed_bytes(any_situation(rng)),
+}
+
+
+def with_bit_turned(rng, data, bit):
+    """The record with a bit of its map turned; one time in two its field comes or goes with it."""
     if rng.random() < 0.5:
-        return data[:3] + bytes([data[3] ^ 1 << LINK_BIT]) + data[4:]
+        return (int.from_bytes(data[:4], "big") ^ 1 << bit).to_bytes(4, "big") + data[4:]
     fields = fields_of(data)
-    if fields.pop(LINK_BIT, None) is None:
-        fields[LINK_BIT] = second.link_bytes(any_links(rng))
+    if fields.pop(bit, None) is None:
+        fields[bit] = TURNED_BITS[bit](rng)
     return second.assemble(fields)
 
 
-def link_bit_run(rng, records):
-    """Some records, one of them with bit 7 turned."""
-    place = rng.randrange(len(records))
-    turned = with_link_bit_turned(rng, records[place])
-    return Run("bit 7 turned at random", b"".join((*records[:place], turned, *records[place + 1:])))
+def bit_turned_run(rng, records):
+    """Some records, one of them with the bit of its links or of its situation turned."""
+    place, bit = rng.randrange(len(records)), rng.choice(list(TURNED_BITS))
+    turned = with_bit_turned(rng, records[place], bit)
+    return Run(f"bit {bit} turned at random", b"".join((*records[:place], turned, *records[place + 1:])))
 
 
 def damaged_runs(rng, samples, number):
@@ -303,4 +324,4 @@ def damaged_runs(rng, samples, number):
     for _ in range(number):
         chosen = rng.choices(samples, k=rng.randint(3, 6))
         records = [any_record(rng, sample.section, sample.load) for sample in chosen]
-        yield rng.choice((damaged_run, damaged_run, link_bit_run))(rng, records)
+        yield rng.choice((damaged_run, bit_turned_run))(rng, records)

@@ -9,7 +9,7 @@ read beside the papers.
 
 Run by itself it answers every row of "Reference cases" and prints 'ok' or
 'DIFFERS' for each; the expected values there are the papers', and the project's
-own for the section that no M suits and for the links.
+own for the section that no M suits, for the links and for the accidental situation.
 """
 
 import sys
@@ -42,14 +42,17 @@ class Links(NamedTuple):
 
 NO_LINKS = Links(0, 0, 0)
 
+PERSISTENT, ACCIDENTAL = 1, 2  # "a design situation: 1 persistent ... or 2 accidental" (02, request 8)
+
 
 class Section(NamedTuple):
-    """Width b, height h, concrete class, steel, the counted layers, and links."""
+    """Width b, height h, concrete class, steel, situation, the counted layers, and links."""
 
     width: int   # b, mm
     height: int  # h, mm
     fck: int     # N/mm²
     fyk: int     # N/mm²
+    situation: int
     count: int
     layers: tuple  # the places; those beyond the count are never read
     links: Links
@@ -63,11 +66,11 @@ class Load(NamedTuple):
     v: int  # N
 
 
-def section_of(width, height, fck, fyk, layers, links=NO_LINKS):
+def section_of(width, height, fck, fyk, layers, links=NO_LINKS, situation=PERSISTENT):
     """A section whose places beyond its layers hold zeros, as a read one has."""
     given = tuple(Layer(*layer) for layer in layers)
     empty = (Layer(0, 0),) * (PLACES - len(given))
-    return Section(width, height, fck, fyk, len(given), given + empty, links)
+    return Section(width, height, fck, fyk, situation, len(given), given + empty, links)
 
 
 def links_of(area, spacing):
@@ -75,7 +78,7 @@ def links_of(area, spacing):
     return Links(1, area, spacing)
 
 
-NO_SECTION = section_of(0, 0, 0, 0, ())
+NO_SECTION = section_of(0, 0, 0, 0, (), situation=0)
 NO_LOAD = Load(0, 0, 0)
 
 
@@ -96,6 +99,20 @@ def has_links(section):
 CLASSES = (12, 16, 20, 25, 30, 35, 40, 45, 50, 55, 60, 70, 80, 90)
 T_ROW = (16, 19, 22, 26, 29, 32, 35, 38, 41, 42, 44, 46, 48, 50)
 E_ROW = (700, 700, 700, 700, 700, 700, 700, 700, 700, 620, 580, 540, 520, 520)
+
+
+class Factors(NamedTuple):
+    """A row of Table 2.1N."""
+
+    concrete: Fraction  # γc
+    steel: Fraction     # γs
+
+
+# "1 persistent, with 1.5 and 1.15, or 2 accidental, with 1.2 and 1.0" (02, request 8)
+FACTORS = {
+    PERSISTENT: Factors(Fraction(15, 10), Fraction(115, 100)),
+    ACCIDENTAL: Factors(Fraction(12, 10), Fraction(10, 10)),
+}
 
 
 class Materials(NamedTuple):
@@ -120,12 +137,14 @@ def strength_factor(fck):
 
 
 @lru_cache(maxsize=None)
-def materials(fck, fyk):
-    """'Strengths are in hundredths of N/mm², rounded down once.'"""
-    concrete = 100 * fck / Fraction(3, 2)     # 100·fck/1.5
-    steel = 100 * fyk / Fraction(115, 100)    # 100·fyk/1.15
+def materials(fck, fyk, situation):
+    """'Strengths are in hundredths of N/mm², rounded down once'; 'in the accidental
+    case f, g and s use the new factors' (02, request 8)."""
+    factors = FACTORS[situation]
+    concrete = 100 * fck / factors.concrete  # 100·fck/1.5, or 1.2
+    steel = 100 * fyk / factors.steel        # 100·fyk/1.15, or 1.0
     block_depth = 80 * depth_factor(fck)
-    assert block_depth.denominator == 1       # "L ... always whole"
+    assert block_depth.denominator == 1      # "L ... always whole"
     return Materials(
         T=T_ROW[CLASSES.index(fck)],
         E=E_ROW[CLASSES.index(fck)],
@@ -137,8 +156,8 @@ def materials(fck, fyk):
 
 
 def materials_of(section):
-    """The materials of a section that passed tests 3 and 4."""
-    return materials(section.fck, section.fyk)
+    """The materials of a section that passed tests 3, 4 and 32."""
+    return materials(section.fck, section.fyk, section.situation)
 
 
 # --------------------------------------------------------------------------
@@ -385,12 +404,27 @@ def axial_force_for_shear(section, n):
     return min(n, floor(Fraction(mat.g * section.width * section.height, 500)))
 
 
+def shear_factor(situation):
+    """100·0.18/γc of 6.2.2(1): 12, and '15·K·r/100 replaces 12·K·r/100' (02, request 8)."""
+    factor = 100 * Fraction(18, 100) / FACTORS[situation].concrete
+    assert factor.denominator == 1
+    return int(factor)
+
+
+def reinforced_stress(section, area, dm):
+    """'12·K·r/100 rounded down', with 15 in the accidental situation."""
+    root = reinforcement_root(section, area, dm)
+    return floor(Fraction(shear_factor(section.situation) * size_factor(dm) * root, 100))
+
+
+def least_stress(section, dm):
+    """'35·q', the same in both situations."""
+    return 35 * least_shear_root(size_factor(dm), section.fck)
+
+
 def shear_stress(section, area, dm):
     """v: 'the greater of 12·K·r/100 rounded down and 35·q'"""
-    size = size_factor(dm)
-    root = reinforcement_root(section, area, dm)
-    return max(floor(Fraction(12 * size * root, 100)),
-               35 * least_shear_root(size, section.fck))
+    return max(reinforced_stress(section, area, dm), least_stress(section, dm))
 
 
 def shear_resistance(section, n, area, dm):
@@ -547,7 +581,9 @@ class Field(NamedTuple):
 
 
 # "Bits 0 to 6: b, h, fck, fyk, N, M, V"; "Bits 0 to 3 must stand"; "N, M or V
-# may be missing and is then 0"
+# may be missing and is then 0"; of the situation "a missing value means 1", and
+# "it is a signed 8-byte field at bit 24" (02, request 8)
+SITUATION_BIT = 24
 FIELDS = (
     Field(0, "width", None),
     Field(1, "height", None),
@@ -556,6 +592,7 @@ FIELDS = (
     Field(4, "n", 0),
     Field(5, "m", 0),
     Field(6, "v", 0),
+    Field(SITUATION_BIT, "situation", PERSISTENT),
 )
 LINK_BIT = 7  # "Bit 7 of the record becomes a field of link area in mm² (4 bytes) and spacing" (02, request 3)
 LAYER_BITS = range(8, 24)  # "Bits 8 to 23: layers"
@@ -564,7 +601,7 @@ SIGNED_BITS = tuple(field.bit for field in FIELDS)
 MANDATORY_BITS = tuple(field.bit for field in FIELDS if field.missing is None)
 OPTIONAL_FIELDS = tuple(field for field in FIELDS if field.missing is not None)
 KNOWN_BITS = (*SIGNED_BITS, LINK_BIT, *LAYER_BITS)
-FORBIDDEN_BITS = tuple(bit for bit in range(32) if bit not in KNOWN_BITS)  # "a standing bit 7 is no longer 21"
+FORBIDDEN_BITS = tuple(bit for bit in range(32) if bit not in KNOWN_BITS)  # "bit 24 is no longer 21", nor is bit 7
 
 
 def record_length(bits):
@@ -589,7 +626,7 @@ def assemble(fields):
 
 
 def signed_bytes(number):
-    """Bits 0 to 6: 'each signed', big-endian."""
+    """Bits 0 to 6, 'each signed', and 24: big-endian."""
     return number.to_bytes(8, "big", signed=True)
 
 
@@ -621,7 +658,7 @@ def numbers_of(section, load):
 
 def fields_written(section, load):
     """'The writer omits a zero N, M or V and uses the lowest layer bits'; it 'sets
-    bit 7 when they are present' (02, request 3)."""
+    bit 7 when they are present' (02, request 3) and 'omits 1' (request 8)."""
     numbers = numbers_of(section, load)
     fields = {field.bit: signed_bytes(numbers[field.bit]) for field in FIELDS
               if numbers[field.bit] != field.missing}
@@ -638,7 +675,7 @@ def fields_read(data, bits):
 
 
 def meaning(fields):
-    """'N, M or V may be missing and is then 0'; 'layers are taken by rising bit'."""
+    """'N, M or V may be missing and is then 0', the situation 1; 'layers are taken by rising bit'."""
     numbers = {field.name: int.from_bytes(fields[field.bit], "big", signed=True)
                if field.bit in fields else field.missing for field in FIELDS}
     load = Load(**{name: numbers.pop(name) for name in Load._fields})
@@ -653,7 +690,7 @@ def meaning(fields):
 
 
 # The numbers in the paper's sequence, which need not be a rising one.
-SECTION_TESTS = (1, 2, 3, 4, 5, 6, 7)
+SECTION_TESTS = (1, 2, 3, 4, 32, 5, 6, 7)  # 32 of request 8 of 02, "after 4"
 LOAD_TESTS = (8, 9, 10)
 LINK_TESTS = (27, 28, 29)  # of request 3 of 02, "directly after 10"
 FACE_TESTS = (11, 12)
@@ -680,13 +717,15 @@ def first_failing(tests):
 
 
 def section_tests(section):
-    """The section tests; 'a test over layers asks about all of them'."""
+    """The section tests, with '32 situation other than 1 or 2, after 4' (02, request
+    8); 'a test over layers asks about all of them'."""
     layers = counted(section)
     return (
         (1, outside(section.width, 50, 2_000)),
         (2, outside(section.height, 50, 2_000)),
         (3, section.fck not in CLASSES),
         (4, outside(section.fyk, 400, 600)),
+        (32, section.situation not in FACTORS),
         (5, outside(section.count, 1, PLACES)),
         (6, any(outside(layer.depth, 1, section.height - 1) for layer in layers)),
         (7, any(outside(layer.area, 1, 20_000) for layer in layers)),
@@ -867,6 +906,7 @@ def list_text(data):
 SECTION_A = section_of(300, 500, 30, 500, [(450, 1_500)])
 NO_MOMENT_SUITS = section_of(50, 50, 25, 400, [(1, 1_500)])  # under N 0 verdict one has an empty interval
 TIE = section_of(200, 300, 35, 500, [(250, 1_500)], links_of(312, 365))  # cotangents 23 and 24 resist the same
+ACCIDENTAL_TIE = TIE._replace(links=links_of(204, 161), situation=ACCIDENTAL)  # 19 and 20 here
 EXAMPLE = bytes.fromhex(
     "0000016F" "000000000000012C" "00000000000001F4" "000000000000001E"
     "00000000000001F4" "000000000BEBC200" "0000000000013880" "000001C2000005DC")
@@ -877,6 +917,13 @@ LINKED_EXAMPLE = bytes.fromhex(  # the same with links 101/200 at bit 7
     "00000000000001F4" "000000000BEBC200" "0000000000013880" "00000065000000C8" "000001C2000005DC")
 LINKED_LIST = ("rec ref u mrd vrd dm as v1 v2 v3 v4 v5 v6\n"
                "1 0 1358 257986051 86851 450 1500 0 0 0 0 0 0\n")
+ACCIDENTAL_A = SECTION_A._replace(situation=ACCIDENTAL)
+ACCIDENTAL_EXAMPLE = bytes.fromhex(  # the same without links, and 2 at bit 24
+    "0100016F" "000000000000012C" "00000000000001F4" "000000000000001E"
+    "00000000000001F4" "000000000BEBC200" "0000000000013880" "000001C2000005DC" "0000000000000002")
+ACCIDENTAL_LIST = ("rec ref u mrd vrd dm as v1 v2 v3 v4 v5 v6\n"
+                   "1 0 1250 300000000 108564 450 1500 0 0 0 0 0 2\n")
+EXAMPLE_LOAD = Load(0, 200_000_000, 80_000)  # of all three examples
 
 
 def equilibrium_rows():
@@ -946,9 +993,9 @@ def clause_rows():
         ("K at 200", size_factor(200), 2_000),
         ("K at 201", size_factor(201), 1_997),
         ("K at 1,999", size_factor(1_999), 1_316),
-        ("f for fck 55", materials(55, 500).f, 3_575),
-        ("f for fck 80", materials(80, 500).f, 4_533),
-        ("s for fyk 500", materials(30, 500).s, 43_478),
+        ("f for fck 55", materials(55, 500, PERSISTENT).f, 3_575),
+        ("f for fck 80", materials(80, 500, PERSISTENT).f, 4_533),
+        ("s for fyk 500", materials(30, 500, PERSISTENT).s, 43_478),
     ]
 
 
@@ -1006,12 +1053,16 @@ def link_verdict_rows():
     ]
 
 
+def refusals_of(section, load, room=LONGEST_RECORD):
+    """The refusals of Check, reader and writer."""
+    reading = read_record(assemble(fields_written(section, load)))
+    return check(section, load).refusal, reading.refusal, write_record(section, load, bytearray(room))[0]
+
+
 def link_refusal_rows():
     """Request 3 of 02: 27, 28 and 29 at both ends and in their sequence."""
     def refusals(area=101, spacing=200, n=0, v=0, room=LONGEST_RECORD, present=1):
-        section, load = SECTION_A._replace(links=Links(present, area, spacing)), Load(n, 0, v)
-        reading = read_record(assemble(fields_written(section, load)))
-        return check(section, load).refusal, reading.refusal, write_record(section, load, bytearray(room))[0]
+        return refusals_of(SECTION_A._replace(links=Links(present, area, spacing)), Load(n, 0, v), room)
 
     def in_all(number):
         return (number,) * 3
@@ -1036,12 +1087,12 @@ def link_refusal_rows():
 
 def link_record_rows():
     """Request 3 of 02: links in the record."""
-    full = section_of(300, 500, 30, 500, [(450, 100)] * PLACES, links_of(101, 200))
+    full = section_of(300, 500, 30, 500, [(450, 100)] * PLACES, links_of(101, 200), ACCIDENTAL)
     load = Load(0, -1, 1)
     written = bytearray(LONGEST_RECORD)
     refusal, length = write_record(full._replace(links=Links(2**63, 101, 200)), load, written)
 
-    def longest(n):  # the writer omits N 0, so no record that it writes has all 24 fields
+    def longest(n):  # the writer omits N 0, so no record that it writes has all 25 fields
         reading = read_record(assemble({**fields_written(full, load), 4: signed_bytes(n)}))
         return reading.refusal, reading.length, reading.section.links
 
@@ -1051,16 +1102,126 @@ def link_record_rows():
     return [
         ("a record with links: its length", len(LINKED_EXAMPLE), 68),
         ("a record with links: what it means", read_record(LINKED_EXAMPLE)[2:],
-         (with_links(SECTION_A, 101, 200), Load(0, 200_000_000, 80_000))),
+         (with_links(SECTION_A, 101, 200), EXAMPLE_LOAD)),
         ("a record with links: what it prints", list_text(LINKED_EXAMPLE), LINKED_LIST),
         ("a record with links: the writer's bytes",
-         assemble(fields_written(with_links(SECTION_A, 101, 200), Load(0, 200_000_000, 80_000))), LINKED_EXAMPLE),
-        ("the longest that is written", (refusal, length), (0, 188)),
-        ("the round trip carries links", read_record(written)[2:], (full, load)),
-        ("the longest, N present as 0", longest(0), (0, 196, links_of(101, 200))),
-        ("the longest, N 1", longest(1), (29, 196, NO_LINKS)),
+         assemble(fields_written(with_links(SECTION_A, 101, 200), EXAMPLE_LOAD)), LINKED_EXAMPLE),
+        ("the longest that is written", (refusal, length), (0, 196)),
+        ("the round trip carries links and situation", read_record(written)[2:], (full, load)),
+        ("the longest, N present as 0", longest(0), (0, 204, links_of(101, 200))),
+        ("the longest, N 1", longest(1), (29, 204, NO_LINKS)),
         ("bit 7 with area 0", bare(0), (27, 52)),
         ("bit 7 alone is 23 and no longer 21", read_record(assemble({LINK_BIT: bytes(8)}))[:2], (23, 12)),
+    ]
+
+
+def strength_rows():
+    """Request 8 of 02: f, g and s for fyk 500; 'rounded down once', so that 5,250 is not 0.9 times 5,833."""
+    strengths = {
+        30: ((2_000, 2_000, 43_478), (2_500, 2_500, 50_000)),
+        55: ((3_575, 3_666, 43_478), (4_468, 4_583, 50_000)),
+        70: ((4_200, 4_666, 43_478), (5_250, 5_833, 50_000)),
+        90: ((4_800, 6_000, 43_478), (6_000, 7_500, 50_000)),
+    }
+    rows = [(f"fck {fck}, situation {situation}: f, g and s", materials(fck, 500, situation)[3:], expected)
+            for fck, both in strengths.items() for situation, expected in zip(FACTORS, both)]
+    return rows + [
+        ("T, E and L have no factor", materials(55, 500, ACCIDENTAL)[:3], (42, 620, 63)),
+        ("12 or 15·K·r/100", [shear_factor(situation) for situation in FACTORS], [12, 15]),
+    ]
+
+
+def accidental_rows():
+    """Request 8 of 02: A under N and M in the accidental situation."""
+    a, turned = ACCIDENTAL_A, turned_over(ACCIDENTAL_A)
+    bottom = check(a, Load(0, -1, 0))
+    return [
+        ("accidental A, N 0: u", find_depth(a, 0), (0, 1_250)),
+        ("accidental A, internal force at 1,250 and 1,251", [internal_force(a, u) for u in (1_250, 1_251)], [0, 600]),
+        ("accidental A, N -1: u", find_depth(a, -1), (0, 1_249)),
+        ("accidental A, N 0: MRd", check(a, NO_LOAD).mrd, 300_000_000),
+        ("accidental A: Moment at depth 1,250", moment_at_depth(a, 1_250), (0, 300_000_000)),
+        ("accidental A, M -1: u and MRd", (bottom.u, bottom.mrd), (405, 7_554_140)),
+        ("accidental A, M -1: the layer alone",
+         rounded_down(layer_moment(turned, counted(turned)[0], 405)), -49_259_260),
+        ("accidental A, the least N", [find_depth(a, n) for n in (-749_400, -749_401)], [(0, 1), (11, 0)]),
+        ("accidental A, the last N", [find_depth(a, n) for n in (3_105_000, 3_105_001)], [(0, 5_000), (12, 0)]),
+        ("accidental A from the bottom: last N",
+         [above_range(turned, n) for n in (3_750_000, 3_750_001)], [False, True]),
+        ("accidental A: Moment at depth 5,000", moment_at_depth(a, 5_000), (0, 129_000_000)),
+    ]
+
+
+def accidental_verdict_rows():
+    """Request 8 of 02: where verdicts one, two, three and six turn in the accidental situation."""
+    def verdicts(place, *loads, section=ACCIDENTAL_A):
+        return [check(section, Load(*load)).verdicts[place - 1] for load in loads]
+
+    def sheared(n=0, area=1_500, fck=30, situation=ACCIDENTAL):
+        return check(section_of(300, 500, fck, 500, [(450, area)], situation=situation), Load(n, 0, 0)).vrd
+
+    def answer(area, spacing):
+        return check(with_links(ACCIDENTAL_A, area, spacing), NO_LOAD)[-3:-1]
+
+    linked, tie = with_links(ACCIDENTAL_A, 101, 200), check(ACCIDENTAL_TIE, NO_LOAD)
+    return [
+        ("accidental A: M to 300,000,000", verdicts(1, (0, 300_000_000, 0), (0, 300_000_001, 0)), [PASS, FAIL]),
+        ("accidental A: M from -7,554,140", verdicts(1, (0, -7_554_140, 0), (0, -7_554_141, 0)), [PASS, FAIL]),
+        ("accidental A: verdict two to u 2,025", verdicts(2, (465_599, 0, 0), (465_600, 0, 0)), [PASS, FAIL]),
+        ("accidental A: V to 108,564", verdicts(3, (0, 0, 108_564), (0, 0, 108_565)), [PASS, FAIL]),
+        ("accidental A: V from -108,564", verdicts(3, (0, 0, -108_564), (0, 0, -108_565)), [PASS, FAIL]),
+        ("accidental A: c to 750,000", [sheared(n) for n in (749_999, 750_000, 750_001)], [209_813, 209_814, 209_814]),
+        ("fck 90: c to 2,250,000, g and not f", [sheared(n, fck=90) for n in (2_250_000, 2_250_001)], [460_320] * 2),
+        ("area 300: 35·q, or 15·K·r/100", [sheared(area=300, situation=one) for one in FACTORS], [55_651, 63_491]),
+        ("area 100: 35·q in both", [sheared(area=100, situation=one) for one in FACTORS], [55_651, 55_651]),
+        ("accidental A, links 101/200", answer(101, 200), (25, 255_656)),
+        ("accidental A, links 500/50", answer(500, 50), (10, 801_900)),
+        ("accidental A, links 200/100", answer(200, 100), (17, 688_500)),
+        ("an accidental tie: the smallest", (tie.cotangent, tie.link_resistance), (19, 270_838)),
+        ("accidental A, links 101/200: V to 255,656",
+         verdicts(6, (0, 0, 255_656), (0, 0, 255_657), section=linked), [PASS, FAIL]),
+    ]
+
+
+def situation_refusal_rows():
+    """Request 8 of 02: '32 situation other than 1 or 2, after 4', in every call that takes a section."""
+    def refusals(situation, **change):
+        section = SECTION_A._replace(situation=situation, **change)
+        return {*refusals_of(section, NO_LOAD), find_depth(section, 0)[0], moment_at_depth(section, 1)[0]}
+
+    return [
+        ("situations 1 and 2", [refusals(situation) for situation in (1, 2)], [{0}, {0}]),
+        ("32: situations 0, 3 and -1", [refusals(situation) for situation in (0, 3, -1)], [{32}, {32}, {32}]),
+        ("4 before 32", refusals(0, fyk=399), {4}),
+        ("32 before 5", refusals(3, count=0), {32}),
+        ("32 before 25", write_record(SECTION_A._replace(situation=0), NO_LOAD, bytearray())[0], 32),
+    ]
+
+
+def situation_record_rows():
+    """Request 8 of 02: the situation in the record."""
+    def with_field(bit, value):
+        return assemble({**fields_read(EXAMPLE, bits_that_stand(EXAMPLE)), bit: signed_bytes(value)})
+
+    def written(section):
+        return assemble(fields_written(section, EXAMPLE_LOAD))
+
+    present_1 = read_record(with_field(24, 1))
+    return [
+        ("an accidental record: its length", len(ACCIDENTAL_EXAMPLE), 68),
+        ("an accidental record: what it means", read_record(ACCIDENTAL_EXAMPLE), (0, 68, ACCIDENTAL_A, EXAMPLE_LOAD)),
+        ("an accidental record: what it prints", list_text(ACCIDENTAL_EXAMPLE), ACCIDENTAL_LIST),
+        ("an accidental record: the writer's bytes", written(ACCIDENTAL_A), ACCIDENTAL_EXAMPLE),
+        ("2 is the field of bit 24", with_field(24, 2), ACCIDENTAL_EXAMPLE),
+        ("a missing value means 1", read_record(EXAMPLE), (0, 60, SECTION_A, EXAMPLE_LOAD)),
+        ("the writer omits 1", written(SECTION_A), EXAMPLE),
+        ("a present 1 is read", present_1, (0, 68, SECTION_A, EXAMPLE_LOAD)),
+        ("a present 1 is not written again", written(present_1.section), EXAMPLE),
+        ("a refused reading has situation 0", read_record(with_field(24, 3)),
+         (32, 68, (0, 0, 0, 0, 0, 0, ((0, 0),) * PLACES, (0, 0, 0)), (0, 0, 0))),
+        ("the field of bit 24, cut", read_record(ACCIDENTAL_EXAMPLE[:-1])[:2], (22, 0)),
+        ("bit 24 alone is 23 and no longer 21", read_record(assemble({24: signed_bytes(2)}))[:2], (23, 12)),
+        ("bit 25 is 21", read_record(with_field(25, 100))[:2], (21, 0)),
     ]
 
 
@@ -1100,13 +1261,13 @@ def sequence_rows():
     links = numbers(link_tests(SECTION_A, NO_LOAD))
     face, top = numbers(face_tests(SECTION_A, NO_LOAD)), numbers(top_tests(SECTION_A, 0))
     return [
-        ("section tests", section, (1, 2, 3, 4, 5, 6, 7)),
+        ("section tests", section, (1, 2, 3, 4, 32, 5, 6, 7)),
         ("load tests", load, (8, 9, 10)),
         ("link tests", links, (27, 28, 29)),
         ("tests of Check", section + load + links + face, SEQUENCES["Check"]),
         ("tests of Find a depth", section + numbers(axial_test(0)) + top, SEQUENCES["Find a depth"]),
-        ("bits of no field", FORBIDDEN_BITS, (24, 25, 26, 27, 28, 29, 30, 31)),
-        ("bytes of the longest record", LONGEST_RECORD, 196),
+        ("bits of no field", FORBIDDEN_BITS, (25, 26, 27, 28, 29, 30, 31)),
+        ("bytes of the longest record", LONGEST_RECORD, 204),
     ]
 
 
@@ -1114,7 +1275,9 @@ def main():
     """Print every reference case; exit status 1 where one differs."""
     failed = 0
     rows = (equilibrium_rows() + both_faces_rows() + clause_rows() + link_rows() + link_verdict_rows()
-            + link_refusal_rows() + link_record_rows() + block_rows() + refusal_rows() + sequence_rows())
+            + link_refusal_rows() + link_record_rows() + strength_rows() + accidental_rows()
+            + accidental_verdict_rows() + situation_refusal_rows() + situation_record_rows()
+            + block_rows() + refusal_rows() + sequence_rows())
     for name, computed, expected in rows:
         same = computed == expected
         failed += not same

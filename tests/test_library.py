@@ -12,7 +12,7 @@ int main(void)
 {
     salwoerk_section a = SALWOERK_SECTION_INIT;
     return (int)a.count + (int)a.links.present + (int)a.links.area + (int)a.layers[SALWOERK_LAYERS - 1].area
-        + *salwoerk_verdict_clause(SALWOERK_VERDICTS);
+        + (int)a.grade.situation - SALWOERK_PERSISTENT + *salwoerk_verdict_clause(SALWOERK_VERDICTS);
 }
 """
 

@@ -5,7 +5,8 @@ import pty
 import subprocess
 
 import second
-from running import (EXAMPLES, LINKED_A_BYTES, LINKED_A_TEXT, PATIENCE, SECTION_A_BYTES, SECTION_A_TEXT, TOP, CommandTest, command, run)
+from running import (ACCIDENTAL_A_BYTES, ACCIDENTAL_A_TEXT, EXAMPLES, LINKED_A_BYTES, LINKED_A_TEXT, PATIENCE, SECTION_A_BYTES, SECTION_A_TEXT,
+                     TOP, CommandTest, command, run)
 
 
 class TextTest(CommandTest):
@@ -252,7 +253,8 @@ class Links(TextTest):
         self.refused(self.START + "links=101/200" + " 450/100" * 17, "line 1, column 25", "layer 17", "16")
 
     def test_twice_is_once_too_often(self):
-        self.refused(SECTION_A_TEXT + LINKED_A_TEXT.strip() + " links=101/200", "line 2, column 10", "'links=101/200' are links again", "expected")
+        self.refused(SECTION_A_TEXT + LINKED_A_TEXT.strip() + " links=101/200", "line 2, column 10", "'links=101/200' gives the links again",
+                     "expected once")
         self.refused(self.TITLES + "300;500;30;500;;;;101/200;450/1500 links=101/200", "line 2, column 9 (layers)", "links again")
 
     def test_messages_name_line_column_and_what_was_expected(self):
@@ -310,6 +312,95 @@ class Links(TextTest):
 
     def test_the_rule_is_in_the_help(self):
         self.assertIn("links=A/s", run("make-record", "--help")[1].decode())
+
+
+class Situation(TextTest):
+    """The design situation: by its name in a line, and in a column of its own below titles; by its word or its number."""
+
+    START = "300 500 30 500 0 200000000 80000 "
+    TITLES = "b;h;fck;fyk;N;M;V;situation;layers\n"
+
+    def accidental(self, *texts):
+        """Texts that mean section A in the accidental situation."""
+        for text in texts:
+            with self.subTest(text=text):
+                self.assertEqual(self.made(text), ACCIDENTAL_A_BYTES)
+
+    def test_by_its_name_in_a_line(self):
+        self.accidental(ACCIDENTAL_A_TEXT, self.START + "situation=2 450/1500", self.START + "Situation=ACCIDENTAL 450/1500",
+                        self.START + "450/1500 situation=accidental", "300;500;30;500;;200kNm;80kN;situation=accidental;450/1500",
+                        "300,500,30,500,,200000000,80000,450/1500,situation=2", "300;500;30;500;;200kNm;80kN;450/1500 situation=2")
+
+    def test_persistent_is_what_a_missing_one_means(self):
+        self.same(self.START + "situation=1 450/1500", self.START + "450/1500 situation=persistent", self.START + "situation=+1 450/1500")
+
+    def test_beside_links_and_sixteen_layers(self):
+        first, *others = (self.made(self.START + words) for words in (
+            "situation=2 links=101/200 450/1500", "links=101/200 situation=2 450/1500", "links=101/200 450/1500 situation=2"))
+        self.assertEqual((first[:4].hex(), others), ("010001ef", [first] * 2))
+        self.assertEqual(self.made("300 500 30 500 1kN 1kNm 1kN situation=2" + " 450/100" * 16)[:4].hex(), "01ffff7f")
+
+    def test_what_the_engine_refuses_can_still_be_written(self):
+        for word, field in (("0", "0000000000000000"), ("3", "0000000000000003"), ("-1", "ffffffffffffffff"),
+                            ("9223372036854775807", "7fffffffffffffff"), ("-9223372036854775808", "8000000000000000")):
+            with self.subTest(word=word):
+                record = self.made(self.START + f"situation={word} 450/1500")
+                self.assertEqual((record[:4].hex(), record[60:].hex()), ("0100016f", field))
+
+    def test_messages_name_line_column_and_what_was_expected(self):
+        for word, *parts in (("fire", "'fire' is no situation"), ("", "'' is no situation"), ("-", "'-' is no situation"),
+                             ("2.0", "'2.0' has decimals"), ("2kN", "'2kN' has no unit"), ("accidental2", "'accidental2' is no situation"),
+                             ("1/2", "'1/2' is no situation")):
+            with self.subTest(word=word):
+                self.refused(SECTION_A_TEXT + self.START + f"situation={word} 450/1500\n", "standard input, line 2, column 8 (layer)",
+                             "expected 1 or 'persistent', 2 or 'accidental'", *parts)
+        self.refused(self.START + "situation=9223372036854775808 450/1500", "does not fit a record", "9223372036854775807\n")
+
+    def test_without_its_name_it_is_no_layer(self):
+        for word in ("accidental", "2", "situation"):
+            self.refused(self.START + word + " 450/1500", "column 8 (layer)", f"'{word}' is no layer", "situation=accidental")
+        self.refused("300 500 30 500 0 0 situation=2 450/1500", "column 7 (V)", "'situation=2' is no number")
+
+    def test_twice_is_once_too_often(self):
+        self.refused(self.START + "situation=1 450/1500 situation=2", "line 1, column 10", "'situation=2' gives the situation again", "once")
+        self.refused(self.TITLES + "300;500;30;500;;;;2;450/1500 situation=2", "line 2, column 9 (layers)", "again")
+
+    def test_a_column_of_situations(self):
+        for title in ("situation", "Situation", "design situation", "Design Situation"):
+            for cell in ("accidental", "Accidental", "2", "situation=2"):
+                self.accidental(f"b;h;fck;fyk;N;M;V;{title};layers\n300;500;30;500;;200kNm;80kN;{cell};450/1500")
+        self.accidental("Name,situation,layers,b,h,fck,fyk,N,M,V\nBeam 1,accidental,450/1500,300,500,30,500,0,200000000,80000\n",
+                        "b;h;fck;fyk;N;M;V;layers\n300;500;30;500;;200kNm;80kN;situation=accidental 450/1500",
+                        "b h fck fyk N M V layers\n" + ACCIDENTAL_A_TEXT)
+
+    def test_an_empty_cell_or_a_dash_is_persistent(self):
+        for cell in ("", "-", " ", "1", "persistent"):
+            self.same(self.TITLES + f"300;500;30;500;;200kNm;80kN;{cell};450/1500")
+        self.same("layers;b;h;fck;fyk;N;M;V;situation\n450/1500;300;500;30;500;;200kNm;80kN")
+
+    def test_a_wrong_cell_of_the_column(self):
+        self.refused("Name;" + self.TITLES + "Beam 7;300;500;30;500;;;;impact;450/1500",
+                     "line 2 'Beam 7', column 9 (situation)", "'impact' is no situation", "'accidental'")
+
+    def test_titles_that_would_lose_the_situation(self):
+        for title in ("situation [1/2]", "Situations", "Accidental", "situation_no", "persistent?"):
+            with self.subTest(title=title):
+                self.refused(f"b;h;fck;fyk;N;M;V;layers;{title}\n", "line 1, column 9", f"'{title}' is no title of situation",
+                             "expected 'situation', with cells 1 or 'persistent', 2 or 'accidental'")
+        self.same("Accidentally;b;h;fck;fyk;N;M;V;layers\nplan 3;300;500;30;500;;200kNm;80kN;450/1500")
+
+    def test_two_columns_and_one_where_blanks_part(self):
+        self.refused("b;h;fck;fyk;N;M;V;situation;design situation;layers\n", "line 1, column 9", "2 titles 'situation'", "expected one")
+        self.refused("b h fck fyk N M V situation layers\n300 500 30 500 0 0 0 2 450/1500", "line 1, column 8", "blanks",
+                     "as in situation=accidental")
+
+    def test_records_in_place_of_text(self):
+        self.refused(ACCIDENTAL_A_BYTES, "line 1, column 1", "show-record")
+
+    def test_the_rule_is_in_the_help(self):
+        rules = run("make-record", "--help")[1].decode()
+        for part in ("situation=S", "persistent", "accidental", "Table 2.1N"):
+            self.assertIn(part, rules)
 
 
 class Messages(TextTest):
@@ -478,14 +569,25 @@ class ShowRecord(TextTest):
     def test_section_a_with_links(self):
         self.assertEqual(self.lines(LINKED_A_BYTES), [LINKED_A_TEXT.split()])
 
+    def test_section_a_in_the_accidental_situation(self):
+        self.assertEqual(self.lines(ACCIDENTAL_A_BYTES), [ACCIDENTAL_A_TEXT.split()])
+
+    def test_a_situation_of_another_number(self):
+        self.assertEqual(self.lines(ACCIDENTAL_A_BYTES[:-1] + b"\3"), [ACCIDENTAL_A_TEXT.replace("accidental", "3").split()])
+
+    def test_a_present_1_keeps_its_meaning(self):
+        present = ACCIDENTAL_A_BYTES[:-1] + b"\1"
+        self.assertEqual((self.lines(present), self.back(present)), ([SECTION_A_TEXT.split()], SECTION_A_BYTES))
+
     def test_no_record_no_line(self):
         self.assertEqual(self.lines(b""), [])
 
     def test_what_make_record_wrote_comes_back_byte_by_byte(self):
         several = self.made("", EXAMPLES / "several.txt")
         extremes = self.made("- 9223372036854775807 -1 0 -9223372036854775808 1kNm -1kN 4294967295/0 0/4294967295\n"
-                             "- - - - - - -\n- - - - - - - links=0/0\n1 2 3 4 5kN 6kNm 7kN 8/9 links=4294967295/4294967295\n")
-        for records in (SECTION_A_BYTES, LINKED_A_BYTES, several, extremes):
+                             "- - - - - - -\n- - - - - - - links=0/0\n1 2 3 4 5kN 6kNm 7kN 8/9 links=4294967295/4294967295\n"
+                             "- - - - - - - situation=0\n1 2 3 4 5kN 6kNm 7kN situation=-9223372036854775808 links=99/0 8/9\n")
+        for records in (SECTION_A_BYTES, LINKED_A_BYTES, ACCIDENTAL_A_BYTES, several, extremes):
             self.assertEqual(self.back(records), records)
 
     def test_gaps_and_present_zeros_keep_their_meaning(self):
@@ -502,7 +604,8 @@ class ShowRecord(TextTest):
 
     def test_broken_records_are_named_after_the_whole_ones(self):
         for broken, fault in ((b"\0\0", "2 bytes are left"), (SECTION_A_BYTES[:59], "calls for 60 bytes; 59 are left"),
-                              (bytes.fromhex("00000080"), "calls for 12 bytes; 4 are left"), (bytes.fromhex("81000000"), "bit 24, 31")):
+                              (bytes.fromhex("00000080"), "calls for 12 bytes; 4 are left"),
+                              (bytes.fromhex("01000000"), "calls for 12 bytes; 4 are left"), (bytes.fromhex("83000000"), "bit 25, 31")):
             with self.subTest(broken=broken.hex()):
                 status, text, message = run("show-record", given=SECTION_A_BYTES + broken)
                 self.assertEqual(status, 1)
@@ -521,11 +624,17 @@ class Examples(TextTest):
         self.assertEqual(self.answers("section-a.txt"), ["1 0 1358 257986051 86851 450 1500 0 0 0 0 0 2"])
 
     def test_several_has_the_refusals_that_its_remarks_say(self):
-        self.assertEqual([line.split()[1] for line in self.answers("several.txt")], ["0"] * 8 + ["3", "29"])
+        self.assertEqual([line.split()[1] for line in self.answers("several.txt")], ["0"] * 9 + ["3", "29"])
 
     def test_several_has_the_verdicts_that_its_remarks_say(self):
         three_and_six = [(line.split()[9], line.split()[12]) for line in self.answers("several.txt")]
         self.assertEqual(three_and_six[1:4], [("1", "2"), ("1", "0"), ("1", "1")])
 
+    def test_several_has_a_beam_that_stands_in_the_accidental_situation_alone(self):
+        word = "situation=accidental"
+        line, = (line for line in (EXAMPLES / "several.txt").read_text().splitlines() if word in line and not line.startswith("#"))
+        for text, verdicts in ((line, "0 0 0 0 0 2"), (line.replace(word, ""), "1 0 1 0 0 2")):
+            self.assertEqual(second.list_text(self.made(text)).split()[-6:], verdicts.split())
+
     def test_the_export_of_a_spreadsheet(self):
-        self.assertEqual(self.answers("beams.csv"), self.answers("several.txt")[:7])
+        self.assertEqual(self.answers("beams.csv"), self.answers("several.txt")[:8])

@@ -4,7 +4,7 @@ import struct
 from typing import NamedTuple, Optional
 
 from streams import Complaint
-from units import FORCE, LENGTH, MOMENT, STRENGTH, Quantity
+from units import FORCE, LENGTH, MOMENT, SITUATION, STRENGTH, Quantity
 
 I64 = (-2**63, 2**63 - 1)
 U32 = (0, 2**32 - 1)
@@ -18,7 +18,7 @@ class Column(NamedTuple):
     bit: int
     quantity: Quantity
     missing: Optional[int]  # what a record without it means; None where it must stand
-    width: int              # characters that show-record gives it
+    width: int = 0          # characters that show-record gives it, in the sequence of its columns
 
 
 COLUMNS = (
@@ -30,9 +30,11 @@ COLUMNS = (
     Column("M", 5, MOMENT, 0, 14),
     Column("V", 6, FORCE, 0, 10),
 )
+SITUATION_COLUMN = Column("situation", 24, SITUATION, 1)  # no line needs it, so it has no place in the sequence
+NUMBERS = (*COLUMNS, SITUATION_COLUMN)
 LINKS_BIT = 7
 LAYER_BITS = range(8, 24)
-FIELD_BITS = {column.bit for column in COLUMNS} | {LINKS_BIT} | set(LAYER_BITS)
+FIELD_BITS = {column.bit for column in NUMBERS} | {LINKS_BIT} | set(LAYER_BITS)
 MAP_BYTES, FIELD_BYTES = 4, 8
 
 
@@ -46,7 +48,7 @@ class Section(NamedTuple):
 
 def packed(section):
     """The record, with the lowest layer bits and without a number that is what a missing one means."""
-    fields = {column.bit: struct.pack(">q", section.numbers[column.name]) for column in COLUMNS
+    fields = {column.bit: struct.pack(">q", section.numbers[column.name]) for column in NUMBERS
               if section.numbers.get(column.name, column.missing) != column.missing}
     fields.update((LINKS_BIT, struct.pack(">II", *links)) for links in section.links)
     fields.update((bit, struct.pack(">II", *layer)) for bit, layer in zip(LAYER_BITS, section.layers))
@@ -72,7 +74,7 @@ def bits_of_record(data, start):
 
 def unpacked(data, start):
     """The section of the record that starts there, and where the next one starts."""
-    names = {column.bit: column.name for column in COLUMNS}
+    names = {column.bit: column.name for column in NUMBERS}
     section, at = Section({}, [], []), start + MAP_BYTES
     for bit in bits_of_record(data, start):
         if bit in names:

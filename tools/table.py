@@ -4,26 +4,31 @@ import re
 from typing import NamedTuple, Optional
 
 import units
-from records import COLUMNS, I64, LAYER_BITS, U32, Column, Section, packed
+from records import COLUMNS, I64, LAYER_BITS, SITUATION_COLUMN, U32, Column, Section, packed
 from streams import Complaint, shown
 
 RULES = """\
 The text has a section a line, and everything from a '#' on is a remark:
 
   b h fck fyk N M V d/A d/A ...
-  b h fck fyk N M V links=A/s d/A d/A ...
+  b h fck fyk N M V situation=S links=A/s d/A d/A ...
 
-  b h        width and height of the section                 mm, cm, m
-  fck fyk    strength of concrete and steel                  N/mm2, MPa
-  N          axial force, positive in compression            N, kN, MN
-  M          moment about mid-height, positive where it      Nmm, kNm, MNm
-             compresses the top
-  V          shear force                                     N, kN, MN
-  links=A/s  vertical links, if there are any: the area of   mm2, cm2 / mm, cm, m
-             all legs of a link / the spacing along the
-             member; once, after V or anywhere among the layers
-  d/A        a layer: its depth from the top face / its      mm, cm, m / mm2, cm2
-             area; 450/1500, 45cm/15cm2
+  b h          width and height of the section               mm, cm, m
+  fck fyk      strength of concrete and steel                N/mm2, MPa
+  N            axial force, positive in compression          N, kN, MN
+  M            moment about mid-height, positive where it    Nmm, kNm, MNm
+               compresses the top
+  V            shear force                                   N, kN, MN
+  situation=S  design situation of Table 2.1N: persistent    no unit
+               or 1, with factors 1.5 and 1.15; accidental
+               or 2, with 1.2 and 1.0
+  links=A/s    vertical links: the area of all legs of a     mm2, cm2 / mm, cm, m
+               link / the spacing along the member
+  d/A          a layer: its depth from the top face / its    mm, cm, m / mm2, cm2
+               area; 450/1500, 45cm/15cm2
+
+Situation and links may be left out: the situation is persistent then, and there
+are no links. Each stands once, after V or anywhere among the layers.
 
 Bars may stand for an area: 450/3x16 is a layer of three bars of 16 mm, and
 links=2x8/200 are links of two legs of 8 mm every 200 mm; their area is by
@@ -45,10 +50,11 @@ of layers, layer 1, layer 2 ... or d/A; a cell there may hold several layers
 parted by blanks. A title may give the unit of its plain numbers: M [kNm]. Other
 titles are not read; their cells are the name of the line in messages.
 
-Links below titles stand in one column links (stirrups, A/s), each cell A/s such
-as 101/200 or 2x8/200, empty or '-' for none; or among the layers by their name,
-links=A/s, as they must where blanks part the cells. A title such as 'link area'
-is refused.
+Situation and links stand below titles in one column each: situation (design
+situation), each cell persistent, accidental, 1 or 2; and links (stirrups, A/s),
+each cell A/s such as 101/200 or 2x8/200. A cell that is empty or '-' leaves it
+out. Or they stand among the layers by their names, as above, and must where
+blanks part the cells. A title such as 'link area' or 'accidental' is refused.
 """
 
 ABSENT = "-"
@@ -58,7 +64,8 @@ TITLE = re.compile(r"([A-Za-z]+) *(?:\[ *(.+?) *\]|\( *(.+?) *\))?")
 LAYERS = re.compile(r"layers?(?: *[0-9]+)?|d/A", re.IGNORECASE)
 LINKS = re.compile(r"(?:(?:shear|vertical) )?(?:links?|stirrups?)|A(?:sw)?/s", re.IGNORECASE)
 ABOUT_LINKS = re.compile(r"\b(?:links?|stirrups?|Asw)(?![A-Za-z])", re.IGNORECASE)
-NAMED = "links="  # links among the layers
+SITUATION = re.compile(r"(?:design )?situation", re.IGNORECASE)
+ABOUT_SITUATION = re.compile(r"\b(?:situations?|persistent|accidental)(?![A-Za-z])", re.IGNORECASE)
 BY_NAME = {column.name.lower(): column for column in COLUMNS}
 ENOUGH_TITLES = 3  # a line that names as many columns is one of titles; two could be units that stand alone
 
@@ -76,6 +83,22 @@ class Place(NamedTuple):
     def is_name(self):
         """Cells here are no part of the record."""
         return not (self.column or self.layers or self.links)
+
+
+class Extra(NamedTuple):
+    """What a line may have once: below titles in a column of its own, or anywhere by its name among the layers."""
+
+    place: Place
+    titles: re.Pattern
+    about: re.Pattern  # of a title that speaks of it
+    cells: str         # what its column holds
+    example: str       # what follows its name and a '='
+
+
+EXTRAS = {
+    "situation": Extra(Place("situation", SITUATION_COLUMN), SITUATION, ABOUT_SITUATION, units.SITUATION.expected, "accidental"),
+    "links": Extra(Place("links", links=True), LINKS, ABOUT_LINKS, "area/spacing such as 101/200 or 2x8/200", "101/200"),
+}
 
 
 class Titles(NamedTuple):
@@ -131,12 +154,13 @@ def column_named(title):
 def place_of(title, left):
     """What a title stands for; one without a title, or '...', goes on with the layers to its left.
 
-    A title that speaks of links and is none of theirs is not taken as a name: its cells would be lost.
+    A title that speaks of situation or links and is none of theirs is not taken as a name: its cells would be lost.
     """
-    if LINKS.fullmatch(title):
-        return Place("links", links=True)
-    if ABOUT_LINKS.search(title):
-        raise Complaint(f"'{shown(title)}' is no title of links; expected 'links', with cells area/spacing such as 101/200 or 2x8/200")
+    for name, extra in EXTRAS.items():
+        if extra.titles.fullmatch(title):
+            return extra.place
+        if extra.about.search(title):
+            raise Complaint(f"'{shown(title)}' is no title of {name}; expected '{name}', with cells {extra.cells}")
     known = column_named(title)
     if not known:
         goes_on = not title.strip(".") and left.layers
@@ -174,14 +198,15 @@ def demand_titles(titles):
                         "expected the layers last, where blanks part the cells")
 
 
-def demand_one_of_links(titles):
-    """Links have one title at most, and none where a line without them would give its first layer in their place."""
-    found = [number for number, place in enumerate(titles.places, 1) if place.links]
-    if len(found) > 1:
-        raise Complaint(f"column {found[1]}: {len(found)} titles 'links'; expected one at most")
-    if found and titles.separator == " ":
-        raise Complaint(f"column {found[0]}: 'links' is no column where blanks part the cells; expected links among the layers, "
-                        f"as in {NAMED}101/200")
+def demand_one_of_each(titles):
+    """Situation and links have at most one title each, and none where a line without them would give its first layer in their place."""
+    for name, extra in EXTRAS.items():
+        found = [number for number, place in enumerate(titles.places, 1) if place is extra.place]
+        if len(found) > 1:
+            raise Complaint(f"column {found[1]}: {len(found)} titles '{name}'; expected one at most")
+        if found and titles.separator == " ":
+            raise Complaint(f"column {found[0]}: '{name}' is no column where blanks part the cells; expected it among the layers, "
+                            f"as in {name}={extra.example}")
 
 
 def titles_of(text):
@@ -191,7 +216,7 @@ def titles_of(text):
         if sum(column_named(cell) is not None for cell in cells) >= ENOUGH_TITLES:
             titles = Titles(places_of(cells), separator)
             demand_titles(titles)
-            demand_one_of_links(titles)
+            demand_one_of_each(titles)
             return titles
     return None
 
@@ -202,6 +227,12 @@ UNTITLED = Titles((*(Place(column.name, column) for column in COLUMNS), Place("l
 # --- cells to a section -----------------------------------------------------
 
 
+def name_of(word):
+    """The name of what a line may have that a word begins with, as links=101/200 does, or none."""
+    name, sign, _ = word.partition("=")
+    return name.lower() if sign and name.lower() in EXTRAS else ""
+
+
 class Reader:
     """Goes through the lines of one input; keeps records, complaints and at most one note."""
 
@@ -210,30 +241,38 @@ class Reader:
         self.titles = UNTITLED
         self.records, self.complaints, self.notes = [], [], []
 
-    def number(self, cell, place, where):
+    def take_number(self, section, cell, place, where):
         """A number of the record; a note where another unit was likely meant."""
         quantity = place.column.quantity
         number = units.whole(cell, quantity, I64, place.unit)
         if not place.unit and not self.notes and units.is_doubtful(cell, quantity, number):
             self.notes.append(f"{where}: {cell} is taken as {cell} {quantity.record_unit}; "
                               f"a number may have its unit, as in {cell}{list(quantity.units)[1]}")
-        return number
+        section.numbers[place.column.name] = number
 
-    def take_links(self, section, word, where):
-        """The links, once; a note where a diameter was likely meant."""
-        if section.links:
-            raise Complaint(f"'{shown(word)}' are links again; expected them once in a line")
-        word = word[len(NAMED):] if word.lower().startswith(NAMED) else word
-        area, spacing = units.link_of(word, U32)
-        if not self.notes and units.is_diameter(word, area):
-            self.notes.append(f"{where}: {area} is taken as {area} mm² of links; two legs of {area} mm are {NAMED}2x{area}/{spacing}")
+    def take_links(self, section, cell, where):
+        """The links; a note where a diameter was likely meant."""
+        area, spacing = units.link_of(cell, U32)
+        if not self.notes and units.is_diameter(cell, area):
+            self.notes.append(f"{where}: {area} is taken as {area} mm² of links; two legs of {area} mm are links=2x{area}/{spacing}")
         section.links.append((area, spacing))
 
+    def take_extra(self, section, word, place, where):
+        """Situation or links, once, with the name before it or without."""
+        if section.links if place.links else place.column.name in section.numbers:
+            raise Complaint(f"'{shown(word)}' gives the {place.title} again; expected once in a line")
+        cell = word.partition("=")[2] if name_of(word) == place.title else word
+        if place.links:
+            self.take_links(section, cell, where)
+        else:
+            self.take_number(section, cell, place, where)
+
     def take_layers(self, section, cell, where):
-        """Layers, and links by their name."""
+        """Layers, and by their names situation and links."""
         for word in filter(None, cell.split(" ")):
-            if word.lower().startswith(NAMED):
-                self.take_links(section, word, where)
+            name = name_of(word)
+            if name:
+                self.take_extra(section, word, EXTRAS[name].place, where)
             else:
                 section.layers.append(units.layer_of(word, U32))
         if len(section.layers) > len(LAYER_BITS):
@@ -243,10 +282,10 @@ class Reader:
         """Put the cell where it belongs."""
         if place.layers:
             self.take_layers(section, cell, where)
-        elif place.links:
-            self.take_links(section, cell, where)
+        elif place.title in EXTRAS:
+            self.take_extra(section, cell, place, where)
         elif place.column:
-            section.numbers[place.column.name] = self.number(cell, place, where)
+            self.take_number(section, cell, place, where)
         elif not place.title:
             raise Complaint(f"'{shown(cell)}' has no title above it; expected an empty cell")
 
@@ -257,7 +296,7 @@ class Reader:
 
     def demand_cells(self, line, count):
         """A line that ends before the last of the seven numbers has likely lost one."""
-        needed = max(number for number, place in enumerate(self.titles.places, 1) if place.column)
+        needed = max(number for number, place in enumerate(self.titles.places, 1) if place.column in COLUMNS)
         if count < needed:
             title = shown(self.titles.place(count + 1).title)
             raise Complaint(f"{line}, column {count + 1} ({title}): the line ends before it; expected "
@@ -293,7 +332,7 @@ class Reader:
 
     def read(self, data):
         """All lines of the input."""
-        if data[:1] in (b"\0", b"\xff", b"\xfe"):
+        if data[:1] in (b"\0", b"\1", b"\xff", b"\xfe"):  # of records, and of text in UTF-16
             self.complaints.append(f"{self.name}, line 1, column 1: this is no text in UTF-8; expected a section a line "
                                    "(records are shown as text by show-record)")
             return
@@ -325,8 +364,14 @@ def line_of(section):
     """The line of text that make-record turns back into such a record."""
     numbers = [section.numbers.get(column.name, column.missing) for column in COLUMNS]
     columns = [(ABSENT if number is None else str(number)).rjust(column.width) for number, column in zip(numbers, COLUMNS)]
-    links = [f"{NAMED}{area}/{spacing}" for area, spacing in section.links]
-    return "  ".join(columns + links + [f"{depth}/{area}" for depth, area in section.layers])
+    return "  ".join(columns + extras_of(section) + [f"{depth}/{area}" for depth, area in section.layers])
+
+
+def extras_of(section):
+    """Situation and links by their names; a situation that a missing one means is left out, as in a record."""
+    situation = section.numbers.get(SITUATION_COLUMN.name, SITUATION_COLUMN.missing)
+    words = [] if situation == SITUATION_COLUMN.missing else [f"situation={units.SITUATION.written(situation)}"]
+    return words + [f"links={area}/{spacing}" for area, spacing in section.links]
 
 
 def title_line():

@@ -12,12 +12,20 @@ class Quantity(NamedTuple):
 
     record_unit: str
     units: dict
-    doubtful: int = 0  # a plain number nearer to 0 than this was likely meant in another unit
+    doubtful: int = 0     # a plain number nearer to 0 than this was likely meant in another unit
+    kind: str = "number"  # what a message calls it
+    words: dict = {}      # words for its numbers; it has no units then
 
     @property
     def expected(self):
         """What a cell of such a column may be."""
+        if self.words:
+            return ", ".join(f"{number} or '{word}'" for word, number in self.words.items())
         return f"a whole number of {self.record_unit}, or a number with its unit ({', '.join(self.units)})"
+
+    def written(self, number):
+        """The number as a text shows it: by its word, if it has one."""
+        return next((word for word, meant in self.words.items() if meant == number), str(number))
 
     def factor(self, unit):
         """How many of the record's unit a unit counts; 'kN·m' and 'mm²' are kNm and mm2."""
@@ -29,6 +37,7 @@ AREA = Quantity("mm²", {"mm2": 1, "cm2": 100})
 STRENGTH = Quantity("N/mm²", {"N/mm2": 1, "MPa": 1})
 FORCE = Quantity("N", {"N": 1, "kN": 1_000, "MN": 1_000_000}, doubtful=1_000)
 MOMENT = Quantity("N·mm", {"Nmm": 1, "kNm": 1_000_000, "MNm": 1_000_000_000}, doubtful=100_000)
+SITUATION = Quantity("", {}, kind="situation", words={"persistent": 1, "accidental": 2})
 
 NUMBER = re.compile(r"([+-]?[0-9]+(?:_[0-9]+)*)(\.[0-9]+)? *([A-Za-z].*)?", re.ASCII)
 BARS = re.compile(r"([0-9]{1,5})x([0-9]{1,5})", re.ASCII)
@@ -60,9 +69,11 @@ def hint(word):
 
 def whole(word, quantity, bounds, unit=""):
     """The number of the record's unit that a word stands for; `unit` is that of the column, if its title has one."""
+    if word.lower() in quantity.words:
+        return quantity.words[word.lower()]
     match = NUMBER.fullmatch(word) if len(word) <= LONGEST else None
     if not match:
-        raise Complaint(f"'{shown(word)}' is no number; expected {quantity.expected}{hint(word)}")
+        raise Complaint(f"'{shown(word)}' is no {quantity.kind}; expected {quantity.expected}{hint(word)}")
     digits, decimals, suffix = match.groups()
     named = suffix or unit
     factor = quantity.factor(named) if named else 1
@@ -75,7 +86,7 @@ def whole(word, quantity, bounds, unit=""):
         raise Complaint(f"'{shown(word)}' is not whole in {quantity.record_unit}; expected {quantity.expected}")
     least, most = bounds
     if not least <= number <= most:
-        raise Complaint(f"'{shown(word)}' does not fit a record; expected {least} to {most} {quantity.record_unit}")
+        raise Complaint(f"'{shown(word)}' does not fit a record; expected {least} to {most} {quantity.record_unit}".rstrip(" "))
     return int(number)
 
 
@@ -119,8 +130,8 @@ def pair_of(word, bounds, what, expected, *readings):
 
 def layer_of(word, bounds):
     """Depth and area of the word d/A."""
-    return pair_of(word, bounds, "layer", "depth/area such as 450/1500, depth/bars such as 450/3x16, or links by their name, links=101/200",
-                   length_of, area_of)
+    return pair_of(word, bounds, "layer", "depth/area such as 450/1500, depth/bars such as 450/3x16, or by its name links=101/200 or "
+                   "situation=accidental", length_of, area_of)
 
 
 def link_of(word, bounds):

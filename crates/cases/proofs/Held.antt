@@ -4,8 +4,7 @@ use lib.Dec.{T}
 use Rattle.arith.specs.Every.{every}
 use Rattle.arith.specs.Fraction.{whole, integer, ratio, _+ᶠ_, _-ᶠ_, _*ᶠ_, _/ᶠ_, _÷ᶠ_, _+ʳ_, reciprocal, atMost, isSame, held, floor, roundedDown}
 use Rattle.arith.specs.Greatest.{greatest, firstGreatest}
-use Rattle.materials.specs.Strength.{depthFactor, strengthFactor, L, f, g, s}
-use Rattle.materials.specs.Situation.{persistent}
+use Rattle.materials.specs.Strength.{depthFactor, strengthFactor, L, f, g, s, CRdc, crd}
 use Rattle.materials.specs.Answer.{materialsIn, materialsOf, opened}
 use Rattle.equilibrium.specs.Force.{at, concreteForce, stress, layerForce, steelForce, internalForce}
 use Rattle.equilibrium.specs.Force.{concreteMoment, layerMoment, steelResistance, momentResistance}
@@ -16,9 +15,12 @@ use Rattle.equilibrium.specs.Depth.{depthIn}
 use Rattle.equilibrium.specs.Moment.{momentIn}
 use Rattle.shear.specs.SizeFactor.{K}
 use Rattle.shear.specs.Shear.{r, q, v, c, concreteShare, axialShare, VRdc}
-use Rattle.record.specs.Bytes.{bytesOf}
-use Rattle.record.specs.Map.{mapWith}
+use Rattle.record.specs.Bytes.{numberAt, bytesOf}
+use Rattle.record.specs.Map.{standing, mapWith, onlyFields, completeTo, complete}
+use Rattle.record.specs.Contents.{layersTo, filled, sectionOf, loadOf}
 use Rattle.record.specs.Layout.{mapOf, fieldsTo, fields, recordOf}
+use Rattle.record.specs.Refusals.{readTests}
+use Rattle.record.specs.Read.{refusedReading, readOf}
 use Rattle.links.specs.Links.{linkResistance, strutResistance, strutCotangent, spacingOk, ratioOk}
 use Rattle.clauses.specs.Linked.{linkedReport}
 use Rattle.clauses.specs.Tension.{tensionLayers, total, meanDepth}
@@ -28,19 +30,20 @@ use Rattle.cases.specs.Cases.{cases, checkRows}
 use Rattle.cases.proofs.Quick.{isDepth, reports, shows, all-sound}
 
 -- the seal of the materials, opened for all of them at once
-everywhere : materialsOf ≡ materialsIn persistent
+everywhere : materialsOf ≡ materialsIn
 everywhere = λ i grade. opened grade i
 
 both-hold : T (every holds cases) × T (every shows checkRows)
-unfolding cases checkRows sectionTests accepted depthIn momentIn checkIn
+unfolding cases checkRows sectionTests accepted depthIn momentIn checkIn readTests readOf
 both-hold = rw everywhere (
     unfold shearIs sameListed isDepth reports
     whole integer ratio _+ᶠ_ _-ᶠ_ _*ᶠ_ _/ᶠ_ _÷ᶠ_ _+ʳ_ reciprocal atMost isSame held floor roundedDown greatest firstGreatest
-    depthFactor strengthFactor L f g s
+    depthFactor strengthFactor L f g s CRdc crd
     at concreteForce stress layerForce steelForce internalForce concreteMoment layerMoment steelResistance momentResistance
     turned carries reaches
     tensionLayers total meanDepth K r q v c concreteShare axialShare VRdc
     mapWith mapOf fieldsTo fields recordOf bytesOf
+    numberAt standing onlyFields completeTo complete layersTo filled sectionOf loadOf refusedReading
     linkResistance strutResistance strutCotangent spacingOk ratioOk linkedReport reportOf reportAt
     in (tt, tt))
 

@@ -29,7 +29,9 @@ use Rattle.shear.specs.Shear.{r, q}
 use Rattle.links.specs.declared.Truss.{Truss}
 use Rattle.links.specs.Links.{linkResistance, strutResistance}
 use Rattle.clauses.specs.Tension.{As, dm}
+use Rattle.record.specs.declared.Reading.{Reading}
 use Rattle.record.specs.Layout.{recordOf}
+use Rattle.record.specs.Read.{readOf}
 use Rattle.clauses.specs.declared.Listed.{Listed}
 use Rattle.clauses.specs.Check.{listed, checkOf}
 
@@ -62,6 +64,8 @@ pub data Case : Type 0 where
   linkTested : Section → Load → ℕ → Case
   -- a section and a load; then the bytes of their record
   written : Section → Load → List ℕ → Case
+  -- bytes; then the refusal, the length and the situation that are read
+  read : List ℕ → ℕ → ℕ → ℤ → Case
   -- what 6.2.3 asks of a section and a cotangent in tenths; then the resistance of the links and that of the strut
   struts : Truss → ℕ → ℕ → ℕ → Case
 
@@ -71,7 +75,7 @@ sameℤ a b = leZ a b && leZ b a
 abbrev sameMaterials : Materials → Materials → Bool
 sameMaterials a b =
     eqb (a .fck) (b .fck) && eqb (a .fyk) (b .fyk) && eqb (a .t) (b .t) && eqb (a .e) (b .e) && eqb (a .l) (b .l) && eqb (a .f) (b .f) && eqb (a .g) (b .g)
-    && eqb (a .s) (b .s)
+    && eqb (a .s) (b .s) && eqb (a .crd) (b .crd)
 
 abbrev isMaterial : Answer → Materials → Bool
 isMaterial (materials.Known m) n = sameMaterials m n
@@ -93,6 +97,9 @@ turnedForceIs ls (section.Refused k) u z = false
 abbrev turnedGives : List Layer → Accepted → ℕ → ℤ → Bool
 turnedGives ls (section.Ready x) u z = sameℤ (steelResistance x (turned (x .h) ls) u) z
 turnedGives ls (section.Refused k) u z = false
+
+abbrev readsAs : Reading → ℕ → ℕ → ℤ → Bool
+readsAs r k n z = eqb (r .refusal) k && eqb (r .length) n && sameℤ (r .section .grade .situation) z
 
 abbrev sameNumbers : List ℕ → List ℕ → Bool
 sameNumbers [] [] = true
@@ -124,6 +131,7 @@ holds (turnedSteel s u z) = turnedGives (layersOf s) (sections.accepted (counted
 holds (sizeFactor d k) = eqb (K d) k
 holds (linkTested s l k) = eqb (firstFailing (sections.loadLinkTests (linksOf s) l)) k
 holds (written s l bytes) = sameNumbers (recordOf (counted s) (linksOf s) l) bytes
+holds (read xs k n z) = readsAs (readOf xs) k n z
 holds (struts x c k z) = eqb (linkResistance x c) k && eqb (strutResistance x c) z
 holds (shearNumbers s N k y z) = shearIs (layersOf s) (sections.accepted (counted s)) (depth.depthFound (depth.findDepth s N)) k y z
 

@@ -1,7 +1,7 @@
 -- Worked cases; that they hold, one computed test over the definitions, is `cases-hold` and `checks-hold` of the proofs. Every case of
 -- document 01 that is marked (P) has its rows here, in 01's order, those of Check in a list of their own. Beside them stand the example of
 -- 01's list, the refusals 11 and 12 also as Check gives them, every class of the table with the letters that follow from it, and both
--- ends of the steel's range with what lies beyond; at the end, the cases of 02's requests 1 and 3, with numbers of the paper or of the
+-- ends of the steel's range with what lies beyond; at the end, the cases of 02's requests 1, 3 and 8, with numbers of the paper or of the
 -- second implementation. Assumes nothing.
 use Prim.Native.Nat.{ℕ}
 use mathlib.Core.List.{List, [], _∷_}
@@ -16,15 +16,26 @@ use Rattle.clauses.specs.declared.Face.{Face}
 use Rattle.clauses.specs.declared.Listed.{Listed}
 use Rattle.clauses.specs.Check.{refusedListed}
 use Rattle.cases.specs.Case.{Case, Case.material, Case.noMaterial, Case.tests, Case.force, Case.turnedForce, Case.found, Case.resists, Case.turnedSteel}
-use Rattle.cases.specs.Case.{Case.sizeFactor, Case.shearNumbers, Case.linkTested, Case.written, Case.struts, CheckRow, withLinks}
+use Rattle.cases.specs.Case.{Case.sizeFactor, Case.shearNumbers, Case.linkTested, Case.written, Case.read, Case.struts, CheckRow, withLinks}
 
--- fck and fyk
+-- fck, fyk and the situation
+abbrev gradeIn : ℤ → ℕ → ℕ → Grade
+gradeIn situation fck fyk = record { fck = pos fck; fyk = pos fyk; situation = situation }
+
+-- persistent
 abbrev grade : ℕ → ℕ → Grade
-grade fck fyk = record { fck = pos fck; fyk = pos fyk }
+grade fck fyk = gradeIn (pos 1) fck fyk
 
--- a row with fck and fyk; then T, E, L, f, g and s
+-- a row with the situation, crd, fck and fyk; then T, E, L, f, g and s
+abbrev lettersIn : ℕ → ℕ → ℕ → ℕ → ℕ → ℕ → ℕ → ℕ → ℕ → ℕ → Case
+lettersIn situation crd fck fyk t e l f g s =
+    material (gradeIn (pos situation) fck fyk) record { fck = fck; fyk = fyk; t = t; e = e; l = l; f = f; g = g; s = s; crd = crd }
+
 abbrev letters : ℕ → ℕ → ℕ → ℕ → ℕ → ℕ → ℕ → ℕ → Case
-letters fck fyk t e l f g s = material (grade fck fyk) record { fck = fck; fyk = fyk; t = t; e = e; l = l; f = f; g = g; s = s }
+letters fck fyk t e l f g s = lettersIn 1 12 fck fyk t e l f g s
+
+abbrev accidentalLetters : ℕ → ℕ → ℕ → ℕ → ℕ → ℕ → ℕ → ℕ → Case
+accidentalLetters fck fyk t e l f g s = lettersIn 2 15 fck fyk t e l f g s
 
 -- a section with one layer of 1,500 mm², C30 and fyk 500 unless said otherwise
 abbrev one : ℕ → ℕ → ℕ → ℕ → Section
@@ -41,6 +52,22 @@ one b h fck d =
 -- section A: 300 by 500, fck 30, fyk 500, one layer of 1,500 at 450
 abbrev A : Section
 A = one 300 500 30 450
+
+-- A in a situation, with fyk and a count
+abbrev AIn : ℤ → ℕ → ℕ → Section
+AIn situation fyk count =
+    record {
+      width = pos 300;
+      height = pos 500;
+      grade = gradeIn situation 30 fyk;
+      links = noLinks;
+      count = count;
+      layers = record { depth = 450; area = 1500 } ∷ replicate 15 noLayer;
+    }
+
+-- A in the accidental situation
+abbrev accidentalA : Section
+accidentalA = AIn (pos 2) 500 1
 
 abbrev load : ℤ → ℤ → ℤ → Load
 load n m v = record { n = n; m = m; v = v }
@@ -76,6 +103,23 @@ linkedLine f o vrd dm area cotangent resistance verdicts =
       resistance = resistance;
       verdicts = verdicts;
     }
+
+-- the record of A under M 200,000,000 and V 80,000 with this first byte of the map, and what follows the layer
+abbrev recordA : ℕ → List ℕ → List ℕ
+recordA top rest =
+    top ∷ 0 ∷ 1 ∷ 111
+    ∷ 0 ∷ 0 ∷ 0 ∷ 0 ∷ 0 ∷ 0 ∷ 1 ∷ 44
+    ∷ 0 ∷ 0 ∷ 0 ∷ 0 ∷ 0 ∷ 0 ∷ 1 ∷ 244
+    ∷ 0 ∷ 0 ∷ 0 ∷ 0 ∷ 0 ∷ 0 ∷ 0 ∷ 30
+    ∷ 0 ∷ 0 ∷ 0 ∷ 0 ∷ 0 ∷ 0 ∷ 1 ∷ 244
+    ∷ 0 ∷ 0 ∷ 0 ∷ 0 ∷ 11 ∷ 235 ∷ 194 ∷ 0
+    ∷ 0 ∷ 0 ∷ 0 ∷ 0 ∷ 0 ∷ 1 ∷ 56 ∷ 128
+    ∷ 0 ∷ 0 ∷ 1 ∷ 194 ∷ 0 ∷ 0 ∷ 5 ∷ 220
+    ∷ rest
+
+-- eight bytes, of which the last is k
+abbrev eight : ℕ → List ℕ
+eight k = 0 ∷ 0 ∷ 0 ∷ 0 ∷ 0 ∷ 0 ∷ 0 ∷ k ∷ []
 
 -- without links, so that verdict six is 2
 abbrev line : Face → Face → ℕ → ℕ → ℕ → ℕ → ℕ → ℕ → ℕ → ℕ → Listed
@@ -166,16 +210,7 @@ cases =
     ∷ struts tie 23 192327 198086
     ∷ struts tie 24 200689 192327
     -- the example's record, and request 3: the same with links, area before spacing, between V and the layer
-    ∷ written A (load (pos 0) (pos 200000000) (pos 80000)) (
-    0 ∷ 0 ∷ 1 ∷ 111
-    ∷ 0 ∷ 0 ∷ 0 ∷ 0 ∷ 0 ∷ 0 ∷ 1 ∷ 44
-    ∷ 0 ∷ 0 ∷ 0 ∷ 0 ∷ 0 ∷ 0 ∷ 1 ∷ 244
-    ∷ 0 ∷ 0 ∷ 0 ∷ 0 ∷ 0 ∷ 0 ∷ 0 ∷ 30
-    ∷ 0 ∷ 0 ∷ 0 ∷ 0 ∷ 0 ∷ 0 ∷ 1 ∷ 244
-    ∷ 0 ∷ 0 ∷ 0 ∷ 0 ∷ 11 ∷ 235 ∷ 194 ∷ 0
-    ∷ 0 ∷ 0 ∷ 0 ∷ 0 ∷ 0 ∷ 1 ∷ 56 ∷ 128
-    ∷ 0 ∷ 0 ∷ 1 ∷ 194 ∷ 0 ∷ 0 ∷ 5 ∷ 220
-    ∷ [])
+    ∷ written A (load (pos 0) (pos 200000000) (pos 80000)) (recordA 0 [])
     ∷ written (withLinks (linksWith 101 200) A) (load (pos 0) (pos 200000000) (pos 80000)) (
     0 ∷ 0 ∷ 1 ∷ 239
     ∷ 0 ∷ 0 ∷ 0 ∷ 0 ∷ 0 ∷ 0 ∷ 1 ∷ 44
@@ -204,6 +239,32 @@ cases =
     ∷ linkTested (withLinks (linksWith 0 200) A) (load (pos 0) (pos 0) (pos 500000001)) 10
     -- request 3: absent links are not asked, whatever their numbers
     ∷ linkTested (withLinks (record { present = 0; area = 0; spacing = 7 }) A) (load (pos 1) (pos 0) (pos 0)) 0
+    -- request 8: A in the accidental situation, N 0 from the top
+    ∷ found accidentalA (pos 0) 0 1250
+    ∷ force accidentalA 1250 (pos 0)
+    ∷ resists accidentalA 1250 0 (pos 300000000)
+    -- request 8: the letters
+    -- fck fyk   T   E  L    f    g     s
+    ∷ accidentalLetters 30 500 29 700 64 2500 2500 50000
+    ∷ accidentalLetters 55 500 42 620 63 4468 4583 50000
+    ∷ accidentalLetters 70 500 46 540 60 5250 5833 50000
+    ∷ accidentalLetters 90 500 50 520 56 6000 7500 50000
+    ∷ accidentalLetters 90 600 50 520 56 6000 7500 60000
+    -- request 8: 32 beside both ends of its range; 4 before 32, 32 before 5
+    ∷ noMaterial (gradeIn (pos 0) 30 500) 32
+    ∷ noMaterial (gradeIn (pos 3) 30 500) 32
+    ∷ noMaterial (gradeIn (negℤ (pos 1)) 30 500) 32
+    ∷ tests (AIn (pos 0) 399 1) 4
+    ∷ tests (AIn (pos 3) 500 0) 32
+    ∷ tests (AIn (pos 2) 500 0) 5
+    -- request 8: the situation stands after the layer, a 1 is not written
+    ∷ written accidentalA (load (pos 0) (pos 200000000) (pos 80000)) (recordA 1 (eight 2))
+    -- request 8: a missing value means 1, a present 1 is read too; 32, with zeros; bit 25
+    ∷ read (recordA 0 []) 0 60 (pos 1)
+    ∷ read (recordA 1 (eight 1)) 0 68 (pos 1)
+    ∷ read (recordA 1 (eight 2)) 0 68 (pos 2)
+    ∷ read (recordA 1 (eight 3)) 32 68 (pos 0)
+    ∷ read (recordA 2 (eight 2)) 21 0 (pos 0)
     ∷ []
 
 -- the rows of Check
@@ -263,4 +324,9 @@ checkRows =
     ∷ checks (withLinks (linksWith 101 200) A) (load (pos 1) (pos 0) (pos 0)) (refusedListed 29)
     ∷ checks (withLinks (linksWith 101 200) A) (load (negℤ (pos 651691)) (pos 0) (pos 0)) (refusedListed 29)
     ∷ checks (withLinks (linksWith 101 200) A) (load (pos 2505001) (pos 0) (pos 0)) (refusedListed 29)
+    -- request 8: the example of the list in the accidental situation, and the other face compressed
+    ∷ checks accidentalA (load (pos 0) (pos 200000000) (pos 80000)) (line (face 1250 (pos 300000000)) (face 405 (pos 7554140)) 108564 450 1500 0 0 0 0 0)
+    ∷ checks accidentalA (load (pos 0) (negℤ (pos 1)) (pos 0)) (line (face 405 (pos 7554140)) (face 1250 (pos 300000000)) 17613 50 1500 0 1 0 0 0)
+    -- request 8: 32 before 5 and before 8
+    ∷ checks (AIn (pos 3) 500 0) (load (pos 500000001) (pos 0) (pos 0)) (refusedListed 32)
     ∷ []

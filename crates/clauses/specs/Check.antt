@@ -40,7 +40,7 @@ module _ (x : Design) (ls : List Layer) (k : Links) (load : Load) (face other : 
   mean = dm (face .u) ls
 
   abbrev vrd : ℕ
-  vrd = VRdc record { b = x .b; h = x .h; fck = x .m .fck; g = x .m .g; N = load .n; As = area; dm = mean }
+  vrd = VRdc record { b = x .b; h = x .h; fck = x .m .fck; g = x .m .g; crd = x .m .crd; N = load .n; As = area; dm = mean }
 
   abbrev linked : LinkReport
   linked = linkedReport x k (load .v) area mean

@@ -45,7 +45,7 @@ fn report_of(
 {
     let u = face.u;
     let t = tension_reinforcement(count, depths, areas, u);
-    let vrd = shear_resistance(x.b, x.h, x.m.fck, x.m.g, l.n, t.area, t.depth);
+    let vrd = shear_resistance(x.b, x.h, x.m.fck, x.m.g, x.m.crd, l.n, t.area, t.depth);
     let linked = check_links(x, k, l.v, t.area, t.depth);
     Report {
         u: u,

@@ -83,7 +83,7 @@ or-zero-most (negsuc n) = omega arith
 
 module _ (x : Sheared) (w : ShearBounds x) where
   abbrev concrete : ℕ
-  concrete = concreteShare (x .b) (x .fck) (x .As) (x .dm)
+  concrete = concreteShare (x .crd) (x .b) (x .fck) (x .As) (x .dm)
 
   abbrev axial : ℤ
   axial = axialShare (shear.c (x .N) (x .g) (x .b) (x .h)) (x .dm) (x .h)
@@ -96,7 +96,7 @@ module _ (x : Sheared) (w : ShearBounds x) where
       go false = lit< tt
       go true =
           let a = axial-in (x .h) (le-trans (lit≤ tt) (w .h-low)) (c-in (w .N-in) (w .g-high) (w .stress .b-high) (w .h-high)) (w .stress .dm-high) in
-          omega (arith, or-zero-most (pos concrete +ℤ axial), abs-add (pos concrete) axial, concrete-high (w .stress))
+          omega (arith, or-zero-most (pos concrete +ℤ axial), abs-add (pos concrete) axial, concrete-high (w .crd-high) (w .stress))
 
 -- a verdict's number is one digit
 digit-of : (v : Verdict) → numberOf v < 10
@@ -128,7 +128,7 @@ report-fits {x} ls k l face other v w ok d m =
       refusal = omega arith;
       u = omega (arith, depth-most b d);
       mrd = omega (arith, m .within);
-      vrd = shear-most _ (record { stress = stress; h-low = b .h-low; h-high = b .h-high; g-high = b .materials .g-high; N-in = ok .n-in });
+      vrd = shear-most _ (record { stress = stress; h-low = b .h-low; h-high = b .h-high; g-high = b .materials .g-high; crd-high = b .materials .crd-high; N-in = ok .n-in });
       dm = omega (arith, dm-high ls n u);
       area = omega (arith, As-high ls n u);
       count = refl;
@@ -137,7 +137,7 @@ report-fits {x} ls k l face other v w ok d m =
         (
           digit-of (second (x .m .fck) u area mean),
           (
-            digit-of (third (l .v) (VRdc record { b = x .b; h = x .h; fck = x .m .fck; g = x .m .g; N = l .n; As = area; dm = mean }) area),
+            digit-of (third (l .v) (VRdc record { b = x .b; h = x .h; fck = x .m .fck; g = x .m .g; crd = x .m .crd; N = l .n; As = area; dm = mean }) area),
             (
               digit-of (fourth (x .m .t) (x .m .fyk) (x .b) area mean),
               (digit-of (fifth (areaOf ls) (x .b) (x .h)), (sixth-digit x k (l .v) area mean, tt)),

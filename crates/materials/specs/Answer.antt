@@ -1,4 +1,4 @@
--- What is answered of a grade, tests 3 and 4 of document 01, and what is promised of the answer. Assumes nothing.
+-- What is answered of a grade, tests 3 and 4 of document 01 and 32 of 02's ticket 8, and what is promised of the answer. Assumes nothing.
 use Prim.Native.Nat.{ℕ, zero, suc, _≤_}
 use mathlib.Core.List.{List, [], _∷_}
 use mathlib.Core.Path.{_≡_, refl}
@@ -14,42 +14,58 @@ use Rattle.materials.specs.declared.Answer.the-variants.{Known, Refused}
 use Rattle.materials.specs.declared.Row.{Row}
 use Rattle.materials.specs.declared.Row.the-variants.{Found, Missing}
 use Rattle.materials.specs.Table.{rowOf, inTable}
-use Rattle.materials.specs.Situation.{Situation, persistent}
-use Rattle.materials.specs.Strength.{depthFactor, L, f, g, s}
+use Rattle.materials.specs.Situation.{Situation, situationOf}
+use Rattle.materials.specs.Strength.{depthFactor, L, f, g, s, CRdc, crd}
 
--- the tests of a grade, in 01's sequence
+-- the tests of a grade, in the documents' sequence
 abbrev pub gradeTests : Grade → List ℕ
 gradeTests grade =
     -- 3 fck not in the table
     test 3 (inTable (rowOf (grade .fck)))
     -- 4 fyk outside 400 to 600
     ∷ test 4 (inRange (pos 400) (pos 600) (grade .fyk))
+    -- 32 situation other than 1 or 2
+    ∷ test 32 (inRange (pos 1) (pos 2) (grade .situation))
     ∷ []
 
 -- the numbers that they have
 abbrev pub gradeRefusals : List ℕ
-gradeRefusals = 3 ∷ 4 ∷ []
+gradeRefusals = 3 ∷ 4 ∷ 32 ∷ []
 
--- the letters of 01, of a class and a steel that passed
+-- the letters of 01, of a class and a steel that passed, in the situation j
 abbrev pub numbers : Situation → ℕ → ℕ → Class → Materials
 numbers j fck fyk class =
-    record { fck = fck; fyk = fyk; t = class .t; e = class .e; l = L fck; f = f j fck; g = g j fck; s = s j fyk }
+    record {
+      fck = fck;
+      fyk = fyk;
+      t = class .t;
+      e = class .e;
+      l = L fck;
+      f = f j fck;
+      g = g j fck;
+      s = s j fyk;
+      crd = crd j;
+    }
+
+-- the situation of a grade that passed
+abbrev pub inSituation : Grade → Situation
+inSituation grade = situationOf (natAbs (grade .situation))
 
 -- The refusal of the first test that fails, or the letters. (The class of a grade that passed is in the table: the last line is never met.)
-abbrev pub answered : Situation → Grade → ℕ → Row → Answer
-answered j grade (suc k) row = Refused (suc k)
-answered j grade zero (Found class) = Known (numbers j (natAbs (grade .fck)) (natAbs (grade .fyk)) class)
-answered j grade zero Missing = Refused 3
+abbrev pub answered : Grade → ℕ → Row → Answer
+answered grade (suc k) row = Refused (suc k)
+answered grade zero (Found class) = Known (numbers (inSituation grade) (natAbs (grade .fck)) (natAbs (grade .fyk)) class)
+answered grade zero Missing = Refused 3
 
-abbrev pub materialsIn : Situation → Grade → Answer
-materialsIn j grade = answered j grade (firstFailing (gradeTests grade)) (rowOf (grade .fck))
+abbrev pub materialsIn : Grade → Answer
+materialsIn grade = answered grade (firstFailing (gradeTests grade)) (rowOf (grade .fck))
 
 -- Sealed: no page outside can look into it. `opened` says what it is, for this crate's proofs and for the worked cases; the parts above
 -- use the promise below and no other statement about it.
 pub materialsOf : Grade → Answer
-materialsOf grade = materialsIn persistent grade
+materialsOf grade = materialsIn grade
 
-pub opened : (grade : Grade) → materialsOf grade ≡ materialsIn persistent grade
+pub opened : (grade : Grade) → materialsOf grade ≡ materialsIn grade
 unfolding materialsOf
 opened grade = refl
 
@@ -58,12 +74,16 @@ abbrev pub refusalNumber : Answer → ℕ
 refusalNumber (Known m) = 0
 refusalNumber (Refused k) = k
 
--- "L is 80 times the depth factor, always whole": of every class nothing is rounded
-abbrev pub ExactBlock : Answer → Type 0
-ExactBlock (Known m) = Same (whole (m .l)) (whole 80 *ᶠ depthFactor (m .fck))
-ExactBlock (Refused k) = Unit {0}
+-- Nothing is rounded of L, "80 times the depth factor, always whole" at every class, and of 100 times CRd,c in either situation.
+pub record ExactNumbers (grade : Grade) (m : Materials) : Type 0 where
+  pub L-exact : Same (whole (m .l)) (whole 80 *ᶠ depthFactor (m .fck))
+  pub crd-exact : Same (whole (m .crd)) (whole 100 *ᶠ CRdc (inSituation grade))
 
--- The promise, no more than the parts above use: bounds of the numbers,
+abbrev pub Exact : Grade → Answer → Type 0
+Exact grade (Known m) = ExactNumbers grade m
+Exact grade (Refused k) = Unit {0}
+
+-- The promise, no more than the parts above use: bounds of the numbers, in every situation,
 pub record Bounds (m : Materials) : Type 0 where
   pub fck-high : m .fck ≤ 90
   pub fyk-high : m .fyk ≤ 600
@@ -76,6 +96,7 @@ pub record Bounds (m : Materials) : Type 0 where
   pub f-high : m .f ≤ 6000
   pub g-high : m .g ≤ 7500
   pub s-high : m .s ≤ 60000
+  pub crd-high : m .crd ≤ 15
 
 -- of the strengths that were asked for;
 pub record Asked (grade : Grade) (m : Materials) : Type 0 where

@@ -1,4 +1,5 @@
--- The stress block of 3.1.7(3) and the design strengths of 3.1.6(1) and 3.2.7(2), by the letters of document 01. Assumes nothing.
+-- The stress block of 3.1.7(3), the design strengths of 3.1.6(1) and 3.2.7(2), and the partial factor in 6.2.2(1), by the letters of
+-- document 01. Assumes nothing.
 use Prim.Native.Nat.{ℕ, _-_, _*_}
 use mathlib.Core.Bool.{cond}
 use lib.Dec.{leb}
@@ -13,7 +14,7 @@ depthFactor fck = cond (leb fck 50) (whole 8 /ᶠ 10) (whole 8 /ᶠ 10 -ᶠ whol
 unfoldable pub strengthFactor : ℕ → Fraction
 strengthFactor fck = cond (leb fck 50) (whole 1) (whole 1 -ᶠ whole (fck - 50) /ᶠ 200)
 
--- 01's L: 80 times the depth factor. From a class of the table the rounding takes nothing: `ExactBlock`
+-- 01's L: 80 times the depth factor. From a class of the table the rounding takes nothing: `Exact`
 unfoldable pub L : ℕ → ℕ
 L fck = roundedDown (whole 80 *ᶠ depthFactor fck)
 
@@ -28,3 +29,11 @@ g j fck = roundedDown (whole (100 * fck) *ᶠ ratio (j .αcc) ÷ᶠ j .γc)
 -- 01's s: 100·fyk/γs
 unfoldable pub s : Situation → ℕ → ℕ
 s j fyk = roundedDown (whole (100 * fyk) ÷ᶠ j .γs)
+
+-- CRd,c of 6.2.2(1): 0.18/γc
+unfoldable pub CRdc : Situation → Fraction
+CRdc j = whole 18 /ᶠ 100 ÷ᶠ j .γc
+
+-- 100 times CRd,c: the 12 of 01's v, the 15 of ticket 8. In both situations the rounding takes nothing: `Exact`
+unfoldable pub crd : Situation → ℕ
+crd j = roundedDown (whole 100 *ᶠ CRdc j)

@@ -1,4 +1,5 @@
-// Concrete and steel: document 01, "Materials". This is the part that is exchanged country by country.
+// Concrete and steel: document 01, "Materials", and 02's ticket 8 for the design situation. This is the part that is exchanged country by
+// country: no part above knows a partial factor.
 ghost use Prim.Native.Nat.{_≤_};
 ghost use mathlib.Core.Bool.{true};
 ghost use mathlib.Core.Path.{_≡_};
@@ -6,15 +7,18 @@ ghost use Rattle.arith.specs.Chain.{firstFailing};
 ghost use Rattle.arith.specs.Fraction.{Same, whole, _*ᶠ_};
 ghost use Rattle.materials.specs.declared.Row.the-variants.{Found};
 ghost use Rattle.materials.specs.Table.{table, find, rowOf, inTable};
-ghost use Rattle.materials.specs.Situation.{persistent};
-ghost use Rattle.materials.specs.Strength.{depthFactor, strengthFactor, f, g, s};
-ghost use Rattle.materials.specs.Answer.{numbers, materialsOf, refusalNumber, gradeTests, ExactBlock, Promised};
+ghost use Rattle.materials.specs.Situation.{situationOf};
+ghost use Rattle.materials.specs.Strength.{depthFactor, strengthFactor, f, g, s, crd};
+ghost use Rattle.materials.specs.Answer.{numbers, materialsOf, refusalNumber, gradeTests, Exact, Promised};
+ghost use Rattle.materials.specs.Code.Factors.{scaled};
 
-// What a section asks of the materials: the concrete class and the steel by their strengths, in N/mm², as a record carries them.
+// What a section asks of the materials: the concrete class and the steel by their strengths, in N/mm², and the design situation of Table
+// 2.1N, 1 persistent or 2 accidental; as a record carries them.
 #[repr(C)]
 pub struct Grade {
     pub fck: i64,
     pub fyk: i64,
+    pub situation: i64,
 }
 
 // What the formulas use of the materials, by the letters of document 01.
@@ -33,6 +37,8 @@ pub struct Materials {
     pub f: u64,
     pub g: u64,
     pub s: u64,
+    // 100 times CRd,c of clause 6.2.2(1)
+    pub crd: u64,
 }
 
 // The materials, or the number of the first of their tests that fails.
@@ -85,10 +91,24 @@ const BLOCKS: [BlockRow; 14] = [
     BlockRow(90, Block { l: 56, eta: 800 }), // λ 0.7, η 0.8
 ];
 
-// The partial factors of Table 2.1N: γc in tenths and γs in hundredths.
-const GAMMA_C: u64 = 15;
+// The partial factors of a design situation.
+struct PartialFactors {
+    // γc, in tenths
+    concrete: u64,
+    // γs, in hundredths
+    steel: u64,
+}
 
-const GAMMA_S: u64 = 115;
+// Table 2.1N: persistent and transient, 1.5 and 1.15; accidental, 1.2 and 1.0.
+const PERSISTENT: PartialFactors = PartialFactors {
+    concrete: 15,
+    steel: 115,
+};
+
+const ACCIDENTAL: PartialFactors = PartialFactors {
+    concrete: 12,
+    steel: 100,
+};
 
 // The row of Table 3.1.
 fn table_row(fck: u64) -> Row
@@ -142,34 +162,55 @@ fn block_of(fck: u64) -> Block
     block
 }
 
-// g: 100·fck/γc.
-fn concrete_strength(fck: u64) -> u64
-    requires { ⌜ fck ≤ 90 ⌝ }
-    ensures { λ r. ⌜ r ≡ g persistent fck ⌝ }
+// The row of Table 2.1N: 1 persistent, 2 accidental.
+fn partial_factors(situation: u64) -> PartialFactors
+    ensures { λ r. ⌜ scaled r ≡ situationOf situation ⌝ }
+    ensures low { λ r. ⌜ (1 ≤ r .concrete) × (1 ≤ r .steel) ⌝ }
 {
-    1000 * fck / GAMMA_C
+    if situation == 1 {
+        PERSISTENT
+    } else {
+        ACCIDENTAL
+    }
+}
+
+// g: 100·fck/γc.
+fn concrete_strength(fck: u64, j: PartialFactors) -> u64
+    requires { ⌜ (fck ≤ 90) × (1 ≤ j .concrete) ⌝ }
+    ensures { λ r. ⌜ r ≡ g (scaled j) fck ⌝ }
+{
+    1000 * fck / j.concrete
 }
 
 // f: the strength factor times 100·fck/γc. With η in thousandths and γc in tenths no power of ten is left.
-fn block_strength(fck: u64, eta: u64) -> u64
-    requires { ⌜ (fck ≤ 90) × Same (whole eta) (whole 1000 *ᶠ strengthFactor fck) ⌝ }
-    ensures { λ r. ⌜ r ≡ f persistent fck ⌝ }
+fn block_strength(fck: u64, eta: u64, j: PartialFactors) -> u64
+    requires { ⌜ (fck ≤ 90) × (Same (whole eta) (whole 1000 *ᶠ strengthFactor fck) × (1 ≤ j .concrete)) ⌝ }
+    ensures { λ r. ⌜ r ≡ f (scaled j) fck ⌝ }
 {
-    eta * fck / GAMMA_C
+    eta * fck / j.concrete
 }
 
 // s: 100·fyk/γs.
-fn steel_strength(fyk: u64) -> u64
-    requires { ⌜ fyk ≤ 600 ⌝ }
-    ensures { λ r. ⌜ r ≡ s persistent fyk ⌝ }
+fn steel_strength(fyk: u64, j: PartialFactors) -> u64
+    requires { ⌜ (fyk ≤ 600) × (1 ≤ j .steel) ⌝ }
+    ensures { λ r. ⌜ r ≡ s (scaled j) fyk ⌝ }
 {
-    10000 * fyk / GAMMA_S
+    10000 * fyk / j.steel
 }
 
-// All of them, of a class and a steel that passed their tests.
-fn design_values(fck: u64, fyk: u64, class: Class) -> Materials
+// 100·CRd,c: 18/γc.
+fn shear_factor(j: PartialFactors) -> u64
+    requires { ⌜ 1 ≤ j .concrete ⌝ }
+    ensures { λ r. ⌜ r ≡ crd (scaled j) ⌝ }
+{
+    180 / j.concrete
+}
+
+// All of them, of a class and a steel that passed their tests, with the factors left open.
+fn design_values(fck: u64, fyk: u64, class: Class, j: PartialFactors) -> Materials
     requires { ⌜ (find fck table ≡ Found class) × (fyk ≤ 600) ⌝ }
-    ensures { λ r. ⌜ r ≡ numbers persistent fck fyk class ⌝ }
+    requires { ⌜ (1 ≤ j .concrete) × (1 ≤ j .steel) ⌝ }
+    ensures { λ r. ⌜ r ≡ numbers (scaled j) fck fyk class ⌝ }
 {
     let block = block_of(fck);
     Materials {
@@ -178,29 +219,34 @@ fn design_values(fck: u64, fyk: u64, class: Class) -> Materials
         t: class.t,
         e: class.e,
         l: block.l,
-        f: block_strength(fck, block.eta),
-        g: concrete_strength(fck),
-        s: steel_strength(fyk),
+        f: block_strength(fck, block.eta, j),
+        g: concrete_strength(fck, j),
+        s: steel_strength(fyk, j),
+        crd: shear_factor(j),
     }
 }
 
-// The materials of a grade, or the refusal: 3 fck not in the table, 4 fyk outside 400 to 600.
+// The materials of a grade, or the refusal: 3 fck not in the table, 4 fyk outside 400 to 600, 32 situation other than 1 or 2.
 pub fn look_up(grade: Grade) -> Answer
     ensures { λ r. ⌜ r ≡ materialsOf grade ⌝ }
     ensures refusal { λ r. ⌜ refusalNumber r ≡ firstFailing (gradeTests grade) ⌝ }
-    ensures exact { λ r. ⌜ ExactBlock r ⌝ }
+    ensures exact { λ r. ⌜ Exact grade r ⌝ }
     ensures promised { λ r. ⌜ Promised grade r ⌝ }
 {
     let fck = grade.fck;
     let fyk = grade.fyk;
+    let situation = grade.situation;
     match row_of(fck) {
         Row::Missing => Answer::Refused(3),
         Row::Found(class) => {
-            if arith::in_range(400, 600, fyk) {
-                Answer::Known(design_values(arith::magnitude(fck), arith::magnitude(fyk), class))
-            } else {
-                Answer::Refused(4)
+            if !arith::in_range(400, 600, fyk) {
+                return Answer::Refused(4);
             }
+            if !arith::in_range(1, 2, situation) {
+                return Answer::Refused(32);
+            }
+            let j = partial_factors(arith::magnitude(situation));
+            Answer::Known(design_values(arith::magnitude(fck), arith::magnitude(fyk), class, j))
         }
     }
 }

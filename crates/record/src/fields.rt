@@ -3,7 +3,7 @@ ghost use mathlib.Core.Path.{_≡_};
 ghost use Prim.Native.Nat.{_<_};
 ghost use Rattle.record.specs.Fields.{fieldOf, missing};
 
-// The fields that are signed numbers: document 01's b, h, fck, fyk, N, M and V.
+// The fields that are signed numbers: document 01's b, h, fck, fyk, N, M and V, and the design situation of 02's ticket 8.
 pub enum Number {
     Width,
     Height,
@@ -12,6 +12,7 @@ pub enum Number {
     Axial,
     Moment,
     Shear,
+    Situation,
 }
 
 pub enum Field {
@@ -28,7 +29,7 @@ pub enum Field {
 }
 
 // How many bits the table names: none from here on has a field.
-pub const WIDTH: u32 = 24;
+pub const WIDTH: u32 = 25;
 
 // The bit of the links.
 pub const LINKS: u32 = 7;
@@ -60,6 +61,9 @@ pub fn field_of(k: u32) -> Field
     }
     if k < 24 {
         return Field::LayerAt((k - 8) as usize);
+    }
+    if k == 24 {
+        return Field::May(Number::Situation, 1);
     }
     Field::Unused
 }

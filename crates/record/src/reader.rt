@@ -133,6 +133,7 @@ fn section_of(s: &[u8], map: u32) -> Section
         grade: Grade {
             fck: number(s, map, 2),
             fyk: number(s, map, 3),
+            situation: number(s, map, 24),
         },
         links: links_of(s, map),
         count: l.count,
@@ -159,7 +160,11 @@ fn refuse(number: u64, bytes: usize) -> Reading
         layers: layers,
         width: 0,
         height: 0,
-        grade: Grade { fck: 0, fyk: 0 },
+        grade: Grade {
+            fck: 0,
+            fyk: 0,
+            situation: 0,
+        },
         links: no_links(),
         count: 0,
     };

@@ -38,6 +38,7 @@ fn number_of(s: Section, l: Load, x: Number) -> i64
         Number::Axial => l.n,
         Number::Moment => l.m,
         Number::Shear => l.v,
+        Number::Situation => s.grade.situation,
     }
 }
 

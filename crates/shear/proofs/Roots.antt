@@ -40,17 +40,18 @@ pub q-high : (fck k : ℕ) → q fck k ≤ 26832
 unfolding q
 q-high fck k = greatest-le (qTest fck k) 26832
 
-pub v-high : (b fck As dm : ℕ) → v b fck As dm ≤ 1355040
-unfolding v
-v-high b fck As dm =
-    max-le (div-le-of-le-mul 100 (omega (arith, mul-le-mul (K-high dm) (r-high b fck As dm)))) (omega (arith, q-high fck (K dm)))
+module _ {crd : ℕ} (factor : crd ≤ 15) where
+  pub v-high : (b fck As dm : ℕ) → v crd b fck As dm ≤ 1693800
+  unfolding v
+  v-high b fck As dm =
+      max-le (div-le-of-le-mul 100 (omega (arith, mul-le-mul (mul-le-mul factor (K-high dm)) (r-high b fck As dm)))) (omega (arith, q-high fck (K dm)))
 
-pub product-high : {b fck As dm : ℕ} → StressBounds b fck As dm → v b fck As dm * b * dm ≤ 5417449920000
-product-high {b} {fck} {As} {dm} h = mul-le-mul (mul-le-mul (v-high b fck As dm) (h .b-high)) (h .dm-high)
+  pub product-high : {b fck As dm : ℕ} → StressBounds b fck As dm → v crd b fck As dm * b * dm ≤ 6771812400000
+  product-high {b} {fck} {As} {dm} h = mul-le-mul (mul-le-mul (v-high b fck As dm) (h .b-high)) (h .dm-high)
 
-pub concrete-high : {b fck As dm : ℕ} → StressBounds b fck As dm → concreteShare b fck As dm ≤ 5417449
-unfolding concreteShare
-concrete-high {b} {fck} {As} {dm} h = omega (arith, product-high h)
+  pub concrete-high : {b fck As dm : ℕ} → StressBounds b fck As dm → concreteShare crd b fck As dm ≤ 6771812
+  unfolding concreteShare
+  concrete-high h = omega (arith, product-high h)
 
 pub cap-high : {g b h : ℕ} → g ≤ 7500 → b ≤ 2000 → h ≤ 2000 → g * b * h ≤ 30000000000
 cap-high x y z = mul-le-mul (mul-le-mul x y) z

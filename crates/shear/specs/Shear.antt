@@ -1,6 +1,6 @@
--- The shear resistance without shear reinforcement, 6.2.2(1): document 01, "Verdicts", the third. As is the area of the
--- tension layers, dm their mean depth, and g the concrete's strength without the block's factor. Between whole numbers `/` is
--- rounded down. Assumes nothing.
+-- The shear resistance without shear reinforcement, 6.2.2(1): document 01, "Verdicts", the third, and 02's ticket 8. As is the area of
+-- the tension layers, dm their mean depth; g is the concrete's strength without the block's factor, crd 100 times CRd,c, both from the
+-- materials. Between whole numbers `/` is rounded down. Assumes nothing.
 use Prim.Native.Nat.{ℕ, _*_, _/_, _^_, max}
 use mathlib.Core.Bool.{Bool, cond}
 use lib.Dec.{leb, ltb}
@@ -29,10 +29,10 @@ qTest fck k q = leb (1000 * q ^ 2) (k ^ 3 * fck)
 unfoldable pub q : ℕ → ℕ → ℕ
 q fck k = greatest (qTest fck k) 26832
 
--- 01's v: the greater of 12·K·r/100 rounded down and 35·q. The 12 is 100·0.18/γc with γc 1.5: a partial factor that stands here, and not in
--- the materials behind their seal.
-unfoldable pub v : ℕ → ℕ → ℕ → ℕ → ℕ
-v b fck As dm = max (12 * K dm * r b fck As dm / 100) (35 * q fck (K dm))
+-- 01's v: the greater of 12·K·r/100 rounded down and 35·q, where 02's ticket 8 has 15 for 12 in the accidental situation: crd. The 35·q is
+-- vmin of (6.3N), which has no partial factor.
+unfoldable pub v : ℕ → ℕ → ℕ → ℕ → ℕ → ℕ
+v crd b fck As dm = max (crd * K dm * r b fck As dm / 100) (35 * q fck (K dm))
 
 -- 01's c: the lesser of N and g·b·h/500 rounded down
 abbrev pub lesser : ℤ → ℤ → ℤ
@@ -41,9 +41,10 @@ lesser x y = cond (leZ x y) x y
 unfoldable pub c : ℤ → ℕ → ℕ → ℕ → ℤ
 c N g b h = lesser N (pos (g * b * h / 500))
 
--- what the concrete carries, v·b·dm/1,000,000, and what N adds, 15·c·dm/(100·h), each rounded down
-unfoldable pub concreteShare : ℕ → ℕ → ℕ → ℕ → ℕ
-concreteShare b fck As dm = v b fck As dm * b * dm / 1000000
+-- what the concrete carries, v·b·dm/1,000,000, and what N adds, 15·c·dm/(100·h), each rounded down. (That 15 is k1, 0.15 in every
+-- situation.)
+unfoldable pub concreteShare : ℕ → ℕ → ℕ → ℕ → ℕ → ℕ
+concreteShare crd b fck As dm = v crd b fck As dm * b * dm / 1000000
 
 unfoldable pub axialShare : ℤ → ℕ → ℕ → ℤ
 axialShare c dm h = floor (whole 15 *ᶠ integer c *ᶠ whole dm /ᶠ (100 * h))
@@ -53,12 +54,13 @@ abbrev pub orZero : ℤ → ℕ
 orZero (pos n) = n
 orZero (negsuc n) = 0
 
--- all that VRd,c is found from: the section's b and h, the concrete's fck and g, the load's N, and As and dm of the tension layers
+-- all that VRd,c is found from: the section's b and h, the concrete's fck, g and crd, the load's N, and As and dm of the tension layers
 pub record Sheared : Type 0 where
   pub b : ℕ
   pub h : ℕ
   pub fck : ℕ
   pub g : ℕ
+  pub crd : ℕ
   pub N : ℤ
   pub As : ℕ
   pub dm : ℕ
@@ -67,5 +69,5 @@ pub record Sheared : Type 0 where
 unfoldable pub VRdc : Sheared → ℕ
 VRdc x =
     cond (leb 1 (x .As))
-    (orZero (pos (concreteShare (x .b) (x .fck) (x .As) (x .dm)) +ℤ axialShare (c (x .N) (x .g) (x .b) (x .h)) (x .dm) (x .h)))
+    (orZero (pos (concreteShare (x .crd) (x .b) (x .fck) (x .As) (x .dm)) +ℤ axialShare (c (x .N) (x .g) (x .b) (x .h)) (x .dm) (x .h)))
     0

@@ -1,5 +1,5 @@
-// The shear resistance without shear reinforcement, 6.2.2(1): document 01, "Verdicts", the third. It takes plain numbers,
-// so it rests on the arithmetic alone.
+// The shear resistance without shear reinforcement, 6.2.2(1): document 01, "Verdicts", the third, and 02's ticket 8. It takes plain
+// numbers, so it rests on the arithmetic alone.
 mod guess;
 mod power;
 mod size;
@@ -40,21 +40,21 @@ fn greater(x: u64, y: u64) -> u64
 }
 
 // v, the stress that the concrete carries.
-fn concrete_stress(b: u64, fck: u64, area: u64, dm: u64) -> u64
-    requires { ⌜ StressBounds b fck area dm ⌝ }
-    ensures { λ x. ⌜ x ≡ v b fck area dm ⌝ }
+fn concrete_stress(crd: u64, b: u64, fck: u64, area: u64, dm: u64) -> u64
+    requires { ⌜ (crd ≤ 15) × StressBounds b fck area dm ⌝ }
+    ensures { λ x. ⌜ x ≡ v crd b fck area dm ⌝ }
 {
     let k = size_factor(dm);
     let root = ratio_root(b, fck, area, dm);
-    greater(12 * k * root / 100, 35 * least_root(fck, k))
+    greater(crd * k * root / 100, 35 * least_root(fck, k))
 }
 
 // v·b·dm/1,000,000 in newtons.
-fn concrete_share(b: u64, fck: u64, area: u64, dm: u64) -> u64
-    requires { ⌜ StressBounds b fck area dm ⌝ }
-    ensures { λ x. ⌜ x ≡ concreteShare b fck area dm ⌝ }
+fn concrete_share(crd: u64, b: u64, fck: u64, area: u64, dm: u64) -> u64
+    requires { ⌜ (crd ≤ 15) × StressBounds b fck area dm ⌝ }
+    ensures { λ x. ⌜ x ≡ concreteShare crd b fck area dm ⌝ }
 {
-    concrete_stress(b, fck, area, dm) * b * dm / 1000000
+    concrete_stress(crd, b, fck, area, dm) * b * dm / 1000000
 }
 
 // c: N, but no more than 0.2·g on the whole section.
@@ -81,14 +81,23 @@ fn or_zero(x: i64) -> u64
 }
 
 // VRd,c in newtons.
-pub fn shear_resistance(b: u64, h: u64, fck: u64, g: u64, n: i64, area: u64, dm: u64) -> u64
-    requires { ⌜ ShearBounds (record { b = b; h = h; fck = fck; g = g; N = n; As = area; dm = dm }) ⌝ }
-    ensures { λ x. ⌜ x ≡ VRdc (record { b = b; h = h; fck = fck; g = g; N = n; As = area; dm = dm }) ⌝ }
+pub fn shear_resistance(
+    b: u64,
+    h: u64,
+    fck: u64,
+    g: u64,
+    crd: u64,
+    n: i64,
+    area: u64,
+    dm: u64,
+) -> u64
+    requires { ⌜ ShearBounds (record { b = b; h = h; fck = fck; g = g; crd = crd; N = n; As = area; dm = dm }) ⌝ }
+    ensures { λ x. ⌜ x ≡ VRdc (record { b = b; h = h; fck = fck; g = g; crd = crd; N = n; As = area; dm = dm }) ⌝ }
 {
     if area < 1 {
         return 0;
     }
-    let concrete = concrete_share(b, fck, area, dm) as i64;
+    let concrete = concrete_share(crd, b, fck, area, dm) as i64;
     let axial = axial_share(counted_force(n, g, b, h), dm, h);
     or_zero(concrete + axial)
 }

@@ -2,14 +2,18 @@
 use native.Mathlib.Nat.{mul-le-mul}
 use native.Mathlib.Omega.{arith}
 use Rattle.materials.proofs.Strength.{eta-high, f-is}
+use borrow.Author.Needs.{needs}
 use Rattle.materials.proofs.block_strength.Statement.{statement}
 use Rattle.materials.proofs.block_strength.Tie as tie
 
 mul-result : tie.Need-mul-result
-mul-result c = omega (arith, mul-le-mul (eta-high _ _ (c .pre .1)) (c .pre .0))
+mul-result c = omega (arith, mul-le-mul (eta-high _ _ (c .pre .1 .0)) (c .pre .0))
+
+div-result : tie.Need-div-result
+div-result c = search needs
 
 returns : tie.Need-returns
-returns c = f-is _ _ (c .pre .1)
+returns c = f-is (c .before .args .j) (c .before .pre .1 .1) _ _ (c .before .pre .1 .0)
 
 pub block-strength-spec : {M : Type 1} → statement M
-block-strength-spec = tie.close (tie.spec mul-result returns)
+block-strength-spec = tie.close (tie.spec mul-result div-result returns)

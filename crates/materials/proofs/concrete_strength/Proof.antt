@@ -7,8 +7,11 @@ use Rattle.materials.proofs.concrete_strength.Tie as tie
 mul-result : tie.Need-mul-result
 mul-result c = search needs
 
+div-result : tie.Need-div-result
+div-result c = search needs
+
 returns : tie.Need-returns
-returns c = g-is (c .args .fck) (c .pre)
+returns c = g-is (c .before .args .j) (c .before .pre .1) (c .before .args .fck)
 
 pub concrete-strength-spec : {M : Type 1} → statement M
-concrete-strength-spec = tie.close (tie.spec mul-result returns)
+concrete-strength-spec = tie.close (tie.spec mul-result div-result returns)

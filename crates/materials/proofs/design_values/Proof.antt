@@ -6,21 +6,31 @@ use Rattle.materials.proofs.design_values.Statement.{statement}
 use Rattle.materials.proofs.design_values.Tie as tie
 
 block-of-requires : tie.Need-block-of-requires
-block-of-requires c κs = rw (c .pre .0)
+block-of-requires c κs = rw (c .pre .0 .0)
 
 block-strength-requires : tie.Need-block-strength-requires
-block-strength-requires c κs = (class-high _ (c .before .pre .0), c .block-of .ensures .1)
+block-strength-requires c κs = (class-high _ (c .before .pre .0 .0), (c .block-of .ensures .1, c .before .pre .1 .0))
 
 concrete-strength-requires : tie.Need-concrete-strength-requires
-concrete-strength-requires c κs = class-high _ (c .before .before .pre .0)
+concrete-strength-requires c κs = (class-high _ (c .before .before .pre .0 .0), search needs)
 
 steel-strength-requires : tie.Need-steel-strength-requires
 steel-strength-requires c κs = search needs
 
+shear-factor-requires : tie.Need-shear-factor-requires
+shear-factor-requires c κs = search needs
+
 returns : tie.Need-returns
 returns c =
-    let d = c .before .before .before in
-    simp (L-is _ _ (d .block-of .ensures .0), c .before .before .block-strength .ensures, c .before .concrete-strength .ensures, c .steel-strength .ensures)
+    let s = c .before in
+    let d = s .before .before .before in
+    simp (
+      L-is _ _ (d .block-of .ensures .0),
+      s .before .before .block-strength .ensures,
+      s .before .concrete-strength .ensures,
+      s .steel-strength .ensures,
+      c .shear-factor .ensures,
+    )
 
 pub design-values-spec : {M : Type 1} → statement M
 design-values-spec =
@@ -30,4 +40,5 @@ design-values-spec =
     block-strength-requires
     concrete-strength-requires
     steel-strength-requires
+    shear-factor-requires
     returns)

@@ -7,8 +7,11 @@ use Rattle.materials.proofs.steel_strength.Tie as tie
 mul-result : tie.Need-mul-result
 mul-result c = search needs
 
+div-result : tie.Need-div-result
+div-result c = search needs
+
 returns : tie.Need-returns
-returns c = s-is (c .args .fyk) (c .pre)
+returns c = s-is (c .before .args .j) (c .before .pre .1) (c .before .args .fyk)
 
 pub steel-strength-spec : {M : Type 1} → statement M
-steel-strength-spec = tie.close (tie.spec mul-result returns)
+steel-strength-spec = tie.close (tie.spec mul-result div-result returns)

@@ -13,10 +13,10 @@ concrete-stress-requires c κs = search needs
 mul-result : tie.Need-mul-result
 mul-result c =
     let s = c .before in
-    rw (c .concrete-stress .ensures) (omega (arith, mul-le-mul (v-high (s .args .b) (s .args .fck) (s .args .area) (s .args .dm)) (s .pre .b-high)))
+    rw (c .concrete-stress .ensures) (omega (arith, mul-le-mul (v-high (s .pre .0) (s .args .b) (s .args .fck) (s .args .area) (s .args .dm)) (s .pre .1 .b-high)))
 
 mul-result-2 : tie.Need-mul-result-2
-mul-result-2 c = rw (c .concrete-stress .ensures) (omega (arith, product-high (c .before .pre)))
+mul-result-2 c = rw (c .concrete-stress .ensures) (omega (arith, product-high (c .before .pre .0) (c .before .pre .1)))
 
 returns : tie.Need-returns
 unfolding concreteShare

@@ -24,13 +24,13 @@ root-high c =
     rw (c .ratio-root .ensures) (r-high (a .b) (a .fck) (a .area) (a .dm))
 
 mul-greater : tie.Need-mul-greater
-mul-greater c = omega (arith, k-high (c .before))
+mul-greater c = omega (arith, mul-le-mul (c .before .before .pre .0) (k-high (c .before)))
 
 mul-greater-2 : tie.Need-mul-greater-2
-mul-greater-2 c = omega (arith, mul-le-mul (k-high (c .before)) (root-high c))
+mul-greater-2 c = omega (arith, mul-le-mul (mul-le-mul (c .before .before .pre .0) (k-high (c .before))) (root-high c))
 
 least-root-requires : tie.Need-least-root-requires
-least-root-requires c κs = (c .before .before .pre .fck-high, k-high (c .before))
+least-root-requires c κs = (c .before .before .pre .1 .fck-high, k-high (c .before))
 
 mul-greater-3 : tie.Need-mul-greater-3
 mul-greater-3 c = rw (c .least-root .ensures) (omega (arith, q-high (c .before .before .before .args .fck) (c .before .before .size-factor .result)))

@@ -16,4 +16,5 @@ pub record ShearBounds (x : Sheared) : Type 0 where
   pub h-low : 50 ≤ x .h
   pub h-high : x .h ≤ 2000
   pub g-high : x .g ≤ 7500
+  pub crd-high : x .crd ≤ 15
   pub N-in : Within (x .N) 500000000

@@ -39,6 +39,7 @@ shear-resistance-requires c κs =
       h-low = b .h-low;
       h-high = b .h-high;
       g-high = b .materials .g-high;
+      crd-high = b .materials .crd-high;
       N-in = rw (field (start a .args .l .n) (c .struct-told .given .0 .1)) (start a .pre .1 .1 .0 .1 .n-in);
     }
 

@@ -1,4 +1,7 @@
 -- `record::fields::field_of` meets its contract. Assumes nothing.
+use mathlib.Core.Path.{sym, ap}
+use native.Mathlib.Omega.{arith}
+use Rattle.record.specs.Fields.{fieldOf}
 use Rattle.record.proofs.Table.{layer-at-bit, beyond}
 use borrow.Author.Needs.{needs}
 use Rattle.record.proofs.fields.field_of.Statement.{statement}
@@ -17,7 +20,10 @@ returns-2 : tie.Need-returns-2
 returns-2 c = layer-at-bit (c .before .before .args .k) (c .before .if1 .left) (c .if2 .taken)
 
 returns-3 : tie.Need-returns-3
-returns-3 c = beyond (c .before .before .args .k) (c .if2 .left)
+returns-3 c = ap fieldOf (sym (c .if3 .taken))
+
+returns-4 : tie.Need-returns-4
+returns-4 c = let k = c .before .before .before .args .k in beyond k (omega (arith, c .before .if2 .left, c .if3 .left))
 
 pub field-of-spec : {M : Type 1} → statement M
-field-of-spec = tie.close (tie.spec low-field-requires returns cast-t4 returns-2 returns-3)
+field-of-spec = tie.close (tie.spec low-field-requires returns cast-t4 returns-2 returns-3 returns-4)

@@ -20,13 +20,17 @@ number-requires-3 c κs = search needs
 number-requires-4 : tie.Need-number-requires-4
 number-requires-4 c κs = search needs
 
+number-requires-5 : tie.Need-number-requires-5
+number-requires-5 c κs = search needs
+
 links-of-requires : tie.Need-links-of-requires
 links-of-requires c κs = search needs
 
 returns : tie.Need-returns
 unfolding sectionOf
 returns c =
-    let c4 = c .before in
+    let c5 = c .before in
+    let c4 = c5 .before in
     let c3 = c4 .before in
     let c2 = c3 .before in
     let c1 = c2 .before in
@@ -35,13 +39,20 @@ returns c =
     let h = c2 .number2 in
     let fck = c3 .number3 in
     let fyk = c4 .number4 in
+    let situation = c5 .number5 in
     let e0 = result (b .ok) (b .ensures) in
     let e1 = result (h .ok) (h .ensures) in
     let e2 = result (fck .ok) (fck .ensures) in
     let e3 = result (fyk .ok) (fyk .ensures) in
-    let e4 = ls .ensures .0 in
-    let e5 = ls .ensures .1 in
-    λ i. record { layers = e5 i; width = e0 i; height = e1 i; grade = record { fck = e2 i; fyk = e3 i }; links = c .links-of .ensures i; count = e4 i }
+    let e4 = result (situation .ok) (situation .ensures) in
+    λ i. record {
+      layers = ls .ensures .1 i;
+      width = e0 i;
+      height = e1 i;
+      grade = record { fck = e2 i; fyk = e3 i; situation = e4 i };
+      links = c .links-of .ensures i;
+      count = ls .ensures .0 i;
+    }
 
 pub section-of-spec : {M : Type 1} → statement M
 section-of-spec =
@@ -52,5 +63,6 @@ section-of-spec =
     number-requires-2
     number-requires-3
     number-requires-4
+    number-requires-5
     links-of-requires
     returns)

@@ -25,6 +25,9 @@ enum-told-6 c = search needs
 enum-told-7 : tie.Need-enum-told-7
 enum-told-7 c = search needs
 
+enum-told-8 : tie.Need-enum-told-8
+enum-told-8 c = search needs
+
 returns : tie.Need-returns
 returns c = rw (c .before .enum-told .given .1) (field (c .before .before .before .args .s .width) (c .struct-told .given .1 .0 .1))
 
@@ -46,6 +49,10 @@ returns-6 c = rw (c .before .enum-told6 .given .1) (field (c .before .before .be
 returns-7 : tie.Need-returns-7
 returns-7 c = rw (c .before .enum-told7 .given .1) (field (c .before .before .before .args .l .v) (c .struct-told7 .given .1 .1 .0 .1))
 
+returns-8 : tie.Need-returns-8
+returns-8 c =
+    rw (c .before .enum-told8 .given .1) (field (c .before .before .before .args .s .grade .situation) (c .struct-told8 .given .1 .1 .1 .0 .1 .1 .1 .1 .0 .1))
+
 pub number-of-spec : {M : Type 1} → statement M
 number-of-spec =
     tie.close
@@ -57,10 +64,12 @@ number-of-spec =
     enum-told-5
     enum-told-6
     enum-told-7
+    enum-told-8
     returns
     returns-2
     returns-3
     returns-4
     returns-5
     returns-6
-    returns-7)
+    returns-7
+    returns-8)
