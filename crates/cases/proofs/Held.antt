@@ -23,7 +23,7 @@ use Rattle.record.specs.Refusals.{readTests}
 use Rattle.record.specs.Read.{refusedReading, readOf}
 use Rattle.links.specs.Links.{linkResistance, strutResistance, strutCotangent, spacingOk, ratioOk}
 use Rattle.clauses.specs.Linked.{linkedReport}
-use Rattle.clauses.specs.Tension.{tensionLayers, total, meanDepth}
+use Rattle.verdicts.specs.Tension.{tensionLayers, total, meanDepth}
 use Rattle.clauses.specs.Check.{reportOf, reportAt, checkIn}
 use Rattle.cases.specs.Case.{shearIs, sameListed, holds, checkHolds}
 use Rattle.cases.specs.Cases.{cases, checkRows}

@@ -28,7 +28,7 @@ use Rattle.shear.specs.SizeFactor.{K}
 use Rattle.shear.specs.Shear.{r, q}
 use Rattle.links.specs.declared.Truss.{Truss}
 use Rattle.links.specs.Links.{linkResistance, strutResistance}
-use Rattle.clauses.specs.Tension.{As, dm}
+use Rattle.verdicts.specs.Tension.{As, dm}
 use Rattle.record.specs.declared.Reading.{Reading}
 use Rattle.record.specs.Layout.{recordOf}
 use Rattle.record.specs.Read.{readOf}

@@ -31,9 +31,9 @@ use Rattle.arith.proofs.Greatest.{first-only}
 use Rattle.links.specs.declared.Truss.{Truss}
 use Rattle.links.specs.Links.{strutCotangent, BestCotangent}
 use Rattle.links.proofs.Whole as links
-use Rattle.clauses.specs.Tension.{tensionLayers, As, dm}
-use Rattle.clauses.specs.declared.Verdict.the-variants.{Fail}
-use Rattle.clauses.specs.Verdicts.{first}
+use Rattle.verdicts.specs.Tension.{tensionLayers, As, dm}
+use Rattle.verdicts.specs.declared.Verdict.the-variants.{Fail}
+use Rattle.verdicts.specs.Verdicts.{first}
 use Rattle.clauses.specs.Check.{checkOf, OfReport}
 use Rattle.clauses.proofs.Laws as clauses
 use Rattle.record.specs.Map.{recordLength}

@@ -36,7 +36,7 @@ use Rattle.clauses.specs.declared.Checked.the-variants.{Done, Refused}
 use Rattle.clauses.specs.Compressed.{ofCompressed}
 use Rattle.clauses.specs.Refusals.{facesTests, facesTestsOf, checkTests}
 use Rattle.clauses.specs.Check.{faceAt, reportOf, reportAt, reported, checkFaces, checkIn, checkOf, OfReport, refusalNumber}
-use Rattle.clauses.specs.Verdicts.{numberOf, first}
+use Rattle.verdicts.specs.Verdicts.{numberOf, first}
 use Rattle.clauses.specs.Accuracy.{topOf, bottomOf, AccurateFaces, AccurateCheck}
 use Rattle.clauses.specs.Best.{BestAnswer, BestLinks}
 use Rattle.links.specs.Links.{lesser, BestCotangent}

@@ -30,15 +30,16 @@ use Rattle.equilibrium.specs.Accuracy.{DepthPromise}
 use Rattle.equilibrium.proofs.Pressed.{Pressed, not-pressed}
 use Rattle.shear.specs.SizeFactor.{K}
 use Rattle.shear.specs.Shear.{rTest, r, qTest, q}
+use Rattle.shear.specs.Code.Ranges.{StressBounds}
 use Rattle.shear.proofs.Roots as roots
 use Rattle.shear.proofs.Roots.{K-high}
-use Rattle.clauses.specs.Tension.{inTension, tensionLayers, areaOf, firstMoment, meanDepth, As, dm}
-use Rattle.clauses.specs.declared.Verdict.the-variants.{Fail}
-use Rattle.clauses.specs.Verdicts.{judged, first}
+use Rattle.verdicts.specs.Tension.{inTension, tensionLayers, areaOf, firstMoment, meanDepth, As, dm}
+use Rattle.verdicts.specs.declared.Verdict.the-variants.{Fail}
+use Rattle.verdicts.specs.Verdicts.{judged, first}
 use Rattle.clauses.specs.Check.{faceAt, reportOf, reportAt, checkIn, checkOf, OfReport}
 use Rattle.clauses.proofs.Checking.{Under, report-with, of-report}
-use Rattle.clauses.proofs.Layers.{total-le, all-tension, mean-is, stress-in}
-use Rattle.clauses.proofs.Layers as layers
+use Rattle.verdicts.proofs.Layers.{total-le, all-tension, mean-is, counts, As-high, dm-high}
+use Rattle.verdicts.proofs.Layers as layers
 
 -- the mean depth of layers whose depths and areas are at least 1 is at least 1
 mean-low : (h : ℕ) (ts : List Layer) → every (depthOk h) ts ≡ true → 1 ≤ areaOf ts → 1 ≤ meanDepth ts
@@ -46,6 +47,12 @@ mean-low h ts e low =
     let each : (l : Layer) → depthOk h l ≡ true → l .area ≤ 1 * (l .area * l .depth) = λ l d. omega (arith, mul-le-mul-left (l .area) (layer-low h l d)) in
     let most : areaOf ts ≤ firstMoment ts = omega (arith, total-le (depthOk h) (λ l. l .area) (λ l. l .area * l .depth) 1 each ts e) in
     rw (mean-is ts) (le-div-iff-mul-le low .1 (omega arith))
+
+-- what the shear asks of the layers of an accepted section
+pub stress-in : {x : Design} {n : ℕ} (ls : List Layer) → Usable x n ls → (u : ℕ) → StressBounds (x .b) (x .m .fck) (As u ls) (dm u ls)
+stress-in ls w u =
+    let c = counts ls w in
+    record { b-high = w .bounded .b-high; fck-high = w .bounded .materials .fck-high; As-high = As-high ls c u; dm-high = dm-high ls c u }
 
 -- ---- r and q are the greatest of all numbers that pass: of every layers of an accepted section, at every depth with a tension layer
 

@@ -1,4 +1,3 @@
-pub mod Layers
 pub mod Checking
 pub mod Laws
 pub mod Compressed

@@ -15,7 +15,7 @@ use Rattle.equilibrium.specs.Accuracy.{Accurate}
 use Rattle.clauses.specs.declared.Face.{Face}
 use Rattle.clauses.specs.declared.Report.{Report}
 use Rattle.clauses.specs.declared.Checked.{Checked}
-use Rattle.clauses.specs.Verdicts.{numberOf, first}
+use Rattle.verdicts.specs.Verdicts.{numberOf, first}
 use Rattle.clauses.specs.Check.{OfReport}
 
 -- the face that a report shows

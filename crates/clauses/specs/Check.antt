@@ -20,14 +20,14 @@ use Rattle.shear.specs.Shear.{VRdc}
 use Rattle.clauses.specs.declared.Face.{Face}
 use Rattle.clauses.specs.declared.Listed.{Listed}
 use Rattle.clauses.specs.declared.Report.{Report}
-use Rattle.clauses.specs.declared.Verdict.{Verdict}
+use Rattle.verdicts.specs.declared.Verdict.{Verdict}
 use Rattle.clauses.specs.declared.linked.LinkReport.{LinkReport}
 use Rattle.clauses.specs.declared.Checked.{Checked}
 use Rattle.clauses.specs.declared.Checked.the-variants.{Done, Refused}
-use Rattle.clauses.specs.Tension.{areaOf, As, dm}
+use Rattle.verdicts.specs.Tension.{areaOf, As, dm}
 use Rattle.clauses.specs.Compressed.{ofCompressed, ofOther}
 use Rattle.clauses.specs.Refusals.{facesTests, checkTests}
-use Rattle.clauses.specs.Verdicts.{numberOf, first, second, third, fourth, fifth}
+use Rattle.verdicts.specs.Verdicts.{numberOf, first, second, third, fourth, fifth}
 use Rattle.clauses.specs.Linked.{linkedReport}
 
 -- u and MRd of the face that M compresses and of the other, VRd,c, dm, As, the links' cotangent and resistance, and the six verdicts, with

@@ -1,2 +1,2 @@
--- Definitions that only the code needs: the ranges in which its products fit. No sentence of document 01 stands below this page.
+-- Definitions that only the code needs: what it may assume. No sentence of document 01 stands below this page.
 pub mod Ranges

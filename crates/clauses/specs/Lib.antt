@@ -1,7 +1,5 @@
 pub mod Compressed
-pub mod Tension
 pub mod Code
-pub mod Verdicts
 pub mod Refusals
 pub mod Linked
 pub mod Check

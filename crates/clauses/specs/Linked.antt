@@ -9,8 +9,8 @@ use Rattle.section.specs.Section.{absent}
 use Rattle.links.specs.declared.Truss.{Truss}
 use Rattle.links.specs.Links.{strutCotangent, trussResistance}
 use Rattle.clauses.specs.declared.linked.LinkReport.{LinkReport}
-use Rattle.clauses.specs.declared.Verdict.the-variants.{NotReached}
-use Rattle.clauses.specs.Verdicts.{numberOf, sixth}
+use Rattle.verdicts.specs.declared.Verdict.the-variants.{NotReached}
+use Rattle.verdicts.specs.Verdicts.{numberOf, sixth}
 
 -- what 6.2.3 and 9.2.2 ask of a section with these links, dm being the mean depth of the tension layers
 abbrev pub trussOf : Design → Links → ℕ → Truss

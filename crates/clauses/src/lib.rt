@@ -2,8 +2,6 @@
 mod check;
 mod linked;
 pub mod numbers;
-mod tension;
-mod verdicts;
 
 use section::Accepted;
 use section::Load;
@@ -17,13 +15,6 @@ ghost use Rattle.clauses.specs.Refusals.{checkTests};
 ghost use Rattle.clauses.specs.Check.{checkOf, refusalNumber};
 ghost use Rattle.clauses.specs.Accuracy.{AccurateCheck};
 ghost use Rattle.clauses.specs.Best.{BestLinks};
-
-// What a clause says of the section: 0, 1 and 2 of document 01.
-pub enum Verdict {
-    Pass,
-    Fail,
-    NotReached,
-}
 
 // A face under N: the depth of the neutral axis in tenths of a millimetre from that face, and MRd in N·mm with it compressed.
 #[repr(C)]

@@ -1,13 +1,13 @@
 // What Check says of the links: 6.2.3 and 9.2.2, document 02, ticket 3.
-use super::Verdict;
 use super::numbers::verdict_number;
-use super::verdicts::judge;
 use links::Truss;
 use links::best_strut;
 use links::ratio_ok;
 use links::spacing_ok;
 use section::Design;
 use section::Links;
+use verdicts::Verdict;
+use verdicts::judge;
 ghost use mathlib.Core.Bool.{false};
 ghost use mathlib.Core.Path.{_≡_};
 ghost use Prim.Native.Nat.{_≤_};

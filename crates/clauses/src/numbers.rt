@@ -3,13 +3,13 @@ use super::Checked;
 use super::Face;
 use super::Listed;
 use super::Report;
-use super::Verdict;
 use super::check_section;
 use section::Load;
 use section::Section;
+use verdicts::Verdict;
 ghost use mathlib.Core.Path.{_≡_};
 ghost use Rattle.clauses.specs.Check.{refusedListed, listed, checkOf};
-ghost use Rattle.clauses.specs.Verdicts.{numberOf};
+ghost use Rattle.verdicts.specs.Verdicts.{numberOf};
 
 pub fn verdict_number(v: Verdict) -> u64
     ensures { λ r. ⌜ r ≡ numberOf v ⌝ }

@@ -41,14 +41,15 @@ use Rattle.shear.specs.Code.Ranges.{ShearBounds}
 use Rattle.shear.specs.Shear as shear
 use Rattle.shear.proofs.Roots.{concrete-high, c-in, axial-in}
 use Rattle.clauses.specs.declared.Face.{Face}
-use Rattle.clauses.specs.declared.Verdict.{Verdict}
-use Rattle.clauses.specs.declared.Verdict.the-variants.{Pass, Fail, NotReached}
+use Rattle.verdicts.specs.declared.Verdict.{Verdict}
+use Rattle.verdicts.specs.declared.Verdict.the-variants.{Pass, Fail, NotReached}
 use Rattle.clauses.specs.declared.Checked.the-variants.{Done}
-use Rattle.clauses.specs.Verdicts.{numberOf, first, second, third, fourth, fifth, sixth}
+use Rattle.verdicts.specs.Verdicts.{numberOf, first, second, third, fourth, fifth, sixth}
 use Rattle.clauses.specs.Linked.{trussOf, reachesLinks, linkReport, noLinkReport, linkedReport}
-use Rattle.clauses.specs.Tension.{areaOf, As, dm}
+use Rattle.verdicts.specs.Tension.{areaOf, As, dm}
 use Rattle.clauses.specs.Check.{refusedListed, listed, faceAt, reportOf, reportAt, checkFaces, checkOf}
-use Rattle.clauses.proofs.Layers.{counts, As-high, dm-high, stress-in}
+use Rattle.verdicts.proofs.Layers.{counts, As-high, dm-high}
+use Rattle.clauses.proofs.Laws.{stress-in}
 use Rattle.clauses.proofs.Checking.{check-refused, load-refused, load-passed, top-refused, bottom-refused, both-at}
 use Rattle.listing.proofs.Longest.{Fitting}
 

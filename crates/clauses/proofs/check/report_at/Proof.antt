@@ -13,7 +13,7 @@ use Rattle.section.specs.Code.Usable.{Usable}
 use Rattle.equilibrium.specs.Code.Whole.{DepthOk}
 use Rattle.clauses.specs.declared.Face.{Face}
 use Rattle.clauses.specs.Compressed.{ofCompressed}
-use Rattle.clauses.specs.Verdicts.{first}
+use Rattle.verdicts.specs.Verdicts.{first}
 use Rattle.clauses.specs.Check.{faceAt, reportOf, reportAt}
 use Rattle.clauses.proofs.Compressed.{through}
 use Rattle.clauses.proofs.check.report_at.Statement.{statement}

@@ -9,7 +9,7 @@ use Rattle.section.specs.declared.Layer.{Layer}
 use Rattle.section.specs.Code.Columns.{layersIn}
 use Rattle.equilibrium.proofs.Sizes.{depth-most, area-high}
 use Rattle.clauses.specs.Check.{reportOf}
-use Rattle.clauses.proofs.Layers.{counts, area-is, As-high, dm-high}
+use Rattle.verdicts.proofs.Layers.{counts, area-is, As-high, dm-high}
 use Rattle.clauses.proofs.check.report_of.Statement.{statement}
 use Rattle.clauses.proofs.check.report_of.Tie as tie
 

@@ -5,7 +5,7 @@ use lib.Dec.{leb}
 use lib.IntN.{natAbs}
 use mir.Facts.{toZ-ofZ}
 use Rattle.links.specs.Links.{trussResistance, spacingOk, ratioOk}
-use Rattle.clauses.specs.Verdicts.{numberOf, judged}
+use Rattle.verdicts.specs.Verdicts.{numberOf, judged}
 use borrow.Author.Needs.{needs}
 use Rattle.clauses.proofs.linked.present_links.Statement.{statement}
 use Rattle.clauses.proofs.linked.present_links.Tie as tie

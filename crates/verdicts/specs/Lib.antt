@@ -1,0 +1,3 @@
+pub mod Tension
+pub mod Verdicts
+pub mod Code
