@@ -16,8 +16,8 @@
 
 /* Of this header: MAJOR changes where a caller must be compiled again, MINOR where something is added, PATCH else.
  * 4.0.0: a grade holds the design situation after fyk; so whoever hands over or gets a section must be compiled again, and sets grade.situation to 1
- * (SALWOERK_SECTION_INIT does): 0 is no situation, and a section zeroed by memset is refused with 32. Bit 24 of a record is no longer refused: it is
- * the situation, and a record may have 204 bytes.
+ * (SALWOERK_SECTION_INIT does). 0 is no situation: a section that begins as zeros, or a grade of two numbers, { 30, 500 }, has it, and is refused with 32
+ * once its other fields are set. Bit 24 of a record is no longer refused: it is the situation, and a record may have 204 bytes.
  * 3.0.0: a section holds links before count, the answer of salwoerk_check holds cotangent and link_resistance before its verdicts, which are six; so
  * whoever hands over or gets a section or a report must be compiled again, and sets links.present to 0 where there are no links
  * (SALWOERK_SECTION_INIT does). Bit 7 of a record is no longer refused: it is the links. A line of salwoerk_list has a sixth verdict.

@@ -299,7 +299,7 @@ class Links(TextTest):
                      "line 2 'Beam 7', column 9 (links)", "'5.03' is no link", "101/200")
 
     def test_titles_that_would_lose_the_links(self):
-        for title in ("links [mm²/mm]", "link area", "Link_spacing", "Area of links", "Asw", "stirrup legs"):
+        for title in ("links [mm²/mm]", "link area", "Link_spacing", "Area of links", "shear_links", "Asw", "stirrup legs"):
             with self.subTest(title=title):
                 self.refused(f"b;h;fck;fyk;N;M;V;layers;{title}\n", "line 1, column 9", f"'{title}' is no title of links", "expected 'links'")
         self.same("Linked to;b;h;fck;fyk;N;M;V;layers\nplan 3;300;500;30;500;;200kNm;80kN;450/1500")
@@ -348,12 +348,10 @@ class Situation(TextTest):
                 self.assertEqual((record[:4].hex(), record[60:].hex()), ("0100016f", field))
 
     def test_messages_name_line_column_and_what_was_expected(self):
-        for word, *parts in (("fire", "'fire' is no situation"), ("", "'' is no situation"), ("-", "'-' is no situation"),
-                             ("2.0", "'2.0' has decimals"), ("2kN", "'2kN' has no unit"), ("accidental2", "'accidental2' is no situation"),
-                             ("1/2", "'1/2' is no situation")):
+        for word in ("fire", "", "-", "2.0", "2kN", "accidental2", "accidental,", "1/2"):
             with self.subTest(word=word):
                 self.refused(SECTION_A_TEXT + self.START + f"situation={word} 450/1500\n", "standard input, line 2, column 8 (layer)",
-                             "expected 1 or 'persistent', 2 or 'accidental'", *parts)
+                             f"'{word}' is no situation; expected 1 or 'persistent', 2 or 'accidental'\n")
         self.refused(self.START + "situation=9223372036854775808 450/1500", "does not fit a record", "9223372036854775807\n")
 
     def test_without_its_name_it_is_no_layer(self):
@@ -383,7 +381,7 @@ class Situation(TextTest):
                      "line 2 'Beam 7', column 9 (situation)", "'impact' is no situation", "'accidental'")
 
     def test_titles_that_would_lose_the_situation(self):
-        for title in ("situation [1/2]", "Situations", "Accidental", "situation_no", "persistent?"):
+        for title in ("situation [1/2]", "Situations", "Accidental", "situation_no", "design_situation", "Bemessungssituation", "persistent?"):
             with self.subTest(title=title):
                 self.refused(f"b;h;fck;fyk;N;M;V;layers;{title}\n", "line 1, column 9", f"'{title}' is no title of situation",
                              "expected 'situation', with cells 1 or 'persistent', 2 or 'accidental'")

@@ -63,9 +63,9 @@ CELLS = {sign: re.compile(rf' *(?:"((?:[^"]|"")*)" *|([^"{sign}]*))({sign}|$)') 
 TITLE = re.compile(r"([A-Za-z]+) *(?:\[ *(.+?) *\]|\( *(.+?) *\))?")
 LAYERS = re.compile(r"layers?(?: *[0-9]+)?|d/A", re.IGNORECASE)
 LINKS = re.compile(r"(?:(?:shear|vertical) )?(?:links?|stirrups?)|A(?:sw)?/s", re.IGNORECASE)
-ABOUT_LINKS = re.compile(r"\b(?:links?|stirrups?|Asw)(?![A-Za-z])", re.IGNORECASE)
+ABOUT_LINKS = re.compile(r"(?<![A-Za-z])(?:links?|stirrups?|Asw)(?![A-Za-z])", re.IGNORECASE)
 SITUATION = re.compile(r"(?:design )?situation", re.IGNORECASE)
-ABOUT_SITUATION = re.compile(r"\b(?:situations?|persistent|accidental)(?![A-Za-z])", re.IGNORECASE)
+ABOUT_SITUATION = re.compile(r"situations?(?![A-Za-z])|(?<![A-Za-z])(?:persistent|accidental)(?![A-Za-z])", re.IGNORECASE)
 BY_NAME = {column.name.lower(): column for column in COLUMNS}
 ENOUGH_TITLES = 3  # a line that names as many columns is one of titles; two could be units that stand alone
 

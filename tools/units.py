@@ -72,8 +72,8 @@ def whole(word, quantity, bounds, unit=""):
     if word.lower() in quantity.words:
         return quantity.words[word.lower()]
     match = NUMBER.fullmatch(word) if len(word) <= LONGEST else None
-    if not match:
-        raise Complaint(f"'{shown(word)}' is no {quantity.kind}; expected {quantity.expected}{hint(word)}")
+    if not match or quantity.words and any(match.group(2, 3)):
+        raise Complaint(f"'{shown(word)}' is no {quantity.kind}; expected {quantity.expected}{'' if quantity.words else hint(word)}")
     digits, decimals, suffix = match.groups()
     named = suffix or unit
     factor = quantity.factor(named) if named else 1

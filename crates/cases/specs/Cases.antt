@@ -37,17 +37,21 @@ letters fck fyk t e l f g s = lettersIn 1 12 fck fyk t e l f g s
 abbrev accidentalLetters : ℕ → ℕ → ℕ → ℕ → ℕ → ℕ → ℕ → ℕ → Case
 accidentalLetters fck fyk t e l f g s = lettersIn 2 15 fck fyk t e l f g s
 
--- a section with one layer of 1,500 mm², C30 and fyk 500 unless said otherwise
-abbrev one : ℕ → ℕ → ℕ → ℕ → Section
-one b h fck d =
+-- a section with one layer of 1,500 mm², or as many of its places as are counted
+abbrev oneIn : Grade → ℕ → ℕ → ℕ → ℕ → Section
+oneIn grade count b h d =
     record {
       width = pos b;
       height = pos h;
-      grade = grade fck 500;
+      grade = grade;
       links = noLinks;
-      count = 1;
+      count = count;
       layers = record { depth = d; area = 1500 } ∷ replicate 15 noLayer;
     }
+
+-- persistent, with fyk 500 and that layer
+abbrev one : ℕ → ℕ → ℕ → ℕ → Section
+one b h fck d = oneIn (grade fck 500) 1 b h d
 
 -- section A: 300 by 500, fck 30, fyk 500, one layer of 1,500 at 450
 abbrev A : Section
@@ -55,15 +59,7 @@ A = one 300 500 30 450
 
 -- A in a situation, with fyk and a count
 abbrev AIn : ℤ → ℕ → ℕ → Section
-AIn situation fyk count =
-    record {
-      width = pos 300;
-      height = pos 500;
-      grade = gradeIn situation 30 fyk;
-      links = noLinks;
-      count = count;
-      layers = record { depth = 450; area = 1500 } ∷ replicate 15 noLayer;
-    }
+AIn situation fyk count = oneIn (gradeIn situation 30 fyk) count 300 500 450
 
 -- A in the accidental situation
 abbrev accidentalA : Section
@@ -74,15 +70,7 @@ load n m v = record { n = n; m = m; v = v }
 
 -- 50 by 50, fck 25, fyk 400, one layer of 1,500 at 1
 abbrev B : Section
-B =
-    record {
-      width = pos 50;
-      height = pos 50;
-      grade = grade 25 400;
-      links = noLinks;
-      count = 1;
-      layers = record { depth = 1; area = 1500 } ∷ replicate 15 noLayer;
-    }
+B = oneIn (grade 25 400) 1 50 50 1
 
 -- u and MRd of a face
 abbrev face : ℕ → ℤ → Face
@@ -257,9 +245,9 @@ cases =
     ∷ tests (AIn (pos 0) 399 1) 4
     ∷ tests (AIn (pos 3) 500 0) 32
     ∷ tests (AIn (pos 2) 500 0) 5
-    -- request 8: the situation stands after the layer, a 1 is not written
+    -- request 8: the situation stands after the layer (that a 1 is not written shows the example's record above)
     ∷ written accidentalA (load (pos 0) (pos 200000000) (pos 80000)) (recordA 1 (eight 2))
-    -- request 8: a missing value means 1, a present 1 is read too; 32, with zeros; bit 25
+    -- request 8: a missing value means 1, a present 1 is read too; 32 and situation 0; bit 25
     ∷ read (recordA 0 []) 0 60 (pos 1)
     ∷ read (recordA 1 (eight 1)) 0 68 (pos 1)
     ∷ read (recordA 1 (eight 2)) 0 68 (pos 2)

@@ -46,6 +46,7 @@ module _ (k : ℕ) {class : Class} (row : find k table ≡ Found class) where
   at-most a b all i =
       leb→le _ _ (in-either (λ j. leb (a j k class) (b j k class)) (at-class (λ k c. inBoth (λ j. leb (a j k c) (b j k c))) all) i)
 
+  -- (no situation is in it: any will do)
   pub class-high : k ≤ 90
   class-high = at-most (λ j k c. k) (λ j k c. 90) tt 1
 

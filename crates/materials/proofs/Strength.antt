@@ -10,6 +10,7 @@ use Rattle.arith.proofs.Fraction.{Positive, proper}
 use Rattle.arith.proofs.Quotient.{rounded-same}
 use Rattle.arith.proofs.Test.{by-cond}
 use Rattle.materials.specs.declared.PartialFactors.{PartialFactors}
+use Rattle.materials.specs.Situation.{longTerm}
 use Rattle.materials.specs.Strength.{depthFactor, strengthFactor, L, f, g, s, CRdc, crd}
 use Rattle.materials.specs.Code.Factors.{scaled}
 
@@ -35,7 +36,7 @@ eta-high k n = by-cond (λ x. Same (whole n) (whole 1000 *ᶠ x) → n ≤ 1000)
 
 -- ---- with γc and γs left open
 
-αcc-positive : Positive record { p = 100; q = 100 }
+αcc-positive : Positive longTerm
 αcc-positive = omega arith
 
 module _ (j : PartialFactors) (low : 1 ≤ j .concrete) where

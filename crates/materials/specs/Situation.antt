@@ -11,13 +11,17 @@ pub record Situation : Type 0 where
   pub γs : Ratio
   pub αcc : Ratio
 
--- Table 2.1N, persistent and transient: 1.5 and 1.15; αcc is 1.00
-abbrev pub persistent : Situation
-persistent = record { γc = record { p = 15; q = 10 }; γs = record { p = 115; q = 100 }; αcc = record { p = 100; q = 100 } }
+-- αcc as it is recommended: 1.00
+abbrev pub longTerm : Ratio
+longTerm = record { p = 100; q = 100 }
 
--- Table 2.1N, accidental: 1.2 and 1.0; αcc is 1.00. By 2.4.2.4(1) this is not for fire, which has part 1-2.
+-- Table 2.1N, persistent and transient: 1.5 and 1.15
+abbrev pub persistent : Situation
+persistent = record { γc = record { p = 15; q = 10 }; γs = record { p = 115; q = 100 }; αcc = longTerm }
+
+-- Table 2.1N, accidental: 1.2 and 1.0. By the note to 2.4.2.4(1) these are not valid for fire, which has part 1-2.
 abbrev pub accidental : Situation
-accidental = record { γc = record { p = 12; q = 10 }; γs = record { p = 100; q = 100 }; αcc = record { p = 100; q = 100 } }
+accidental = record { γc = record { p = 12; q = 10 }; γs = record { p = 100; q = 100 }; αcc = longTerm }
 
 -- ticket 8's numbers: 1 persistent, 2 accidental. (Of every other number the answer is 32.)
 abbrev pub situationOf : ℕ → Situation
