@@ -99,15 +99,16 @@ struct PartialFactors {
     steel: u64,
 }
 
-// Table 2.1N: persistent and transient, 1.5 and 1.15; accidental, 1.2 and 1.0.
+// Table 2.1N, persistent and transient; beside each figure the factor itself.
 const PERSISTENT: PartialFactors = PartialFactors {
-    concrete: 15,
-    steel: 115,
+    concrete: 15, // γc 1.5
+    steel: 115, // γs 1.15
 };
 
+// Table 2.1N, accidental.
 const ACCIDENTAL: PartialFactors = PartialFactors {
-    concrete: 12,
-    steel: 100,
+    concrete: 12, // γc 1.2
+    steel: 100, // γs 1.0
 };
 
 // The row of Table 3.1.
