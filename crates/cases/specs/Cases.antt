@@ -31,6 +31,7 @@ abbrev lettersIn : ℕ → ℕ → ℕ → ℕ → ℕ → ℕ → ℕ → ℕ �
 lettersIn situation crd fck fyk t e l f g s =
     material (gradeIn (pos situation) fck fyk) record { fck = fck; fyk = fyk; t = t; e = e; l = l; f = f; g = g; s = s; crd = crd }
 
+-- persistent, with 100·CRd,c 12, and accidental, with 15
 abbrev letters : ℕ → ℕ → ℕ → ℕ → ℕ → ℕ → ℕ → ℕ → Case
 letters fck fyk t e l f g s = lettersIn 1 12 fck fyk t e l f g s
 

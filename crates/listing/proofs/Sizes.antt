@@ -129,7 +129,14 @@ report-fits {x} ls k l face other v w ok d m =
       refusal = omega arith;
       u = omega (arith, depth-most b d);
       mrd = omega (arith, m .within);
-      vrd = shear-most _ (record { stress = stress; h-low = b .h-low; h-high = b .h-high; g-high = b .materials .g-high; crd-high = b .materials .crd-high; N-in = ok .n-in });
+      vrd = shear-most _ (record {
+        stress = stress;
+        h-low = b .h-low;
+        h-high = b .h-high;
+        g-high = b .materials .g-high;
+        crd-high = b .materials .crd-high;
+        N-in = ok .n-in;
+      });
       dm = omega (arith, dm-high ls n u);
       area = omega (arith, As-high ls n u);
       count = refl;

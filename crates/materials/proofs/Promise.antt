@@ -51,8 +51,8 @@ module _ (k : ℕ) {class : Class} (row : find k table ≡ Found class) where
   class-high = at-most (λ j k c. k) (λ j k c. 90) tt 1
 
 -- of every steel of the range, a bound
-at-steel : (a b : Situation → ℕ → ℕ) → T (allBelow (λ (k : ℕ). inBoth (λ j. leb (a j (400 + k)) (b j (400 + k)))) 201) → (i y : ℕ) → 400 ≤ y → y ≤ 600
-    → a (situationOf i) y ≤ b (situationOf i) y
+at-steel : (a b : Situation → ℕ → ℕ) → T (allBelow (λ (k : ℕ). inBoth (λ j. leb (a j (400 + k)) (b j (400 + k)))) 201) → (i y : ℕ)
+    → 400 ≤ y → y ≤ 600 → a (situationOf i) y ≤ b (situationOf i) y
 at-steel a b all i y low high =
     let e : 400 + (y - 400) ≡ y = omega arith in
     let t = below (λ (k : ℕ). inBoth (λ j. leb (a j (400 + k)) (b j (400 + k)))) 201 (y - 400) all (omega arith) in

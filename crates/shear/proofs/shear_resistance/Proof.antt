@@ -22,7 +22,9 @@ returns c = rw (lt-leb 1 _ (c .if1 .taken))
 
 -- the concrete's share, as the code has it
 abbrev concrete : tie.After-concrete-share → M
-concrete c = nat (c .concrete-share .result) {B = 6771812} (rw (c .concrete-share .ensures) (concrete-high (c .before .before .pre .crd-high) (c .before .before .pre .stress))) tt
+concrete c =
+    let pre = c .before .before .pre in
+    nat (c .concrete-share .result) {B = 6771812} (rw (c .concrete-share .ensures) (concrete-high (pre .crd-high) (pre .stress))) tt
 
 -- c, which the code hands on
 module _ (c : tie.After-counted-force) where

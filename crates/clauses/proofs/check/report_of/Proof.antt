@@ -112,7 +112,6 @@ returns c =
       five .verdict-number5 .ensures,
       field (l .n) (vrd .before .struct-told .given .0 .1),
       field (l .v) (linked .before .struct-told2 .given .1 .1 .0 .1),
-      field (l .v) (shear .before .struct-told3 .given .1 .1 .0 .1),
       field (start a .args .face .mrd) (c .struct-told4 .given .1 .0 .1),
     )
 
