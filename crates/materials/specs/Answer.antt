@@ -32,7 +32,7 @@ gradeTests grade =
 abbrev pub gradeRefusals : List ℕ
 gradeRefusals = 3 ∷ 4 ∷ 32 ∷ []
 
--- the letters of 01, of a class and a steel that passed, in the situation j
+-- the letters of 01 and 100·CRd,c, of a class and a steel that passed, in the situation j
 abbrev pub numbers : Situation → ℕ → ℕ → Class → Materials
 numbers j fck fyk class =
     record {
