@@ -4,7 +4,8 @@
  *
  * Answers: random sections and loads, with every refusal of the two calls and values at the limits among them, and the loads at which
  * answers turn (the force at a depth 1 N less and more, MRd of either face 1 N·mm less and more); a third has links, with the V, the spacing
- * and the area among them at which verdict six turns; half are of the accidental situation. A difference is printed and ends the run with 1.
+ * and the area among them at which verdict six turns; half are of the accidental situation, and half have any alpha_cc of 80 to 100 hundredths, the
+ * others 100. A difference is printed and ends the run with 1.
  *
  * Times: accepted sections with loads, the same for all, in two ways. "Over and over" are FEW sections, gone through again and again: the
  * processor has learnt which way every branch of each goes, as it has of nothing that is checked once. "In turn" are SECTIONS, each seen
@@ -12,7 +13,8 @@
  * then by value, so that whatever else the machine does falls on each. Of all rounds the best is taken, since a disturbance only ever
  * adds; each round lies at another place of the stack, which moves the time of a copy by some percent. Half of the loads compress the
  * bottom. The sections of the rows "with links" all have links in range, and N is 0; those of the other rows have none. All are of the
- * persistent situation. ratio = time of plain C / time of the engine: above 1 the engine is the quicker. Times are printed, never asserted.
+ * persistent situation, with alpha_cc 100. ratio = time of plain C / time of the engine: above 1 the engine is the quicker. Times are printed,
+ * never asserted.
  *
  * "plain" finds the depth, r and q by a least and a greatest candidate; "same roots" is plain C by pointer with r and q from the engine's
  * guess, tested as the engine tests it. */
@@ -61,15 +63,16 @@ static void print_check(const char *who, salwoerk_report a)
 
 static void print_section(const salwoerk_section *s, salwoerk_load l)
 {
-    printf("b %lld h %lld fck %lld fyk %lld situation %lld N %lld M %lld V %lld links %llu %u/%u count %zu:", (long long)s->width,
-        (long long)s->height, (long long)s->grade.fck, (long long)s->grade.fyk, (long long)s->grade.situation, (long long)l.n, (long long)l.m,
-        (long long)l.v, (unsigned long long)s->links.present, s->links.area, s->links.spacing, s->count);
+    printf("b %lld h %lld fck %lld fyk %lld situation %lld alpha_cc %lld N %lld M %lld V %lld links %llu %u/%u count %zu:", (long long)s->width,
+        (long long)s->height, (long long)s->grade.fck, (long long)s->grade.fyk, (long long)s->grade.situation, (long long)s->grade.alpha_cc,
+        (long long)l.n, (long long)l.m, (long long)l.v, (unsigned long long)s->links.present, s->links.area, s->links.spacing, s->count);
     for (size_t i = 0; i < s->count && i < 16; i++) printf(" %u/%u", s->layers[i].depth, s->layers[i].area);
     printf("\n");
 }
 
-/* bit k: refusal k was met, bit 0: an answer; the verdicts, three bits each; bit c: cotangent c was answered; and bit k: situation k was */
-static uint64_t met, verdicts, cotangents, answered;
+/* bit k: refusal k was met, bit 0: an answer; the verdicts, three bits each; bit c: cotangent c was answered; bit k: situation k was; and bit a:
+ * alpha_cc 80 + a was */
+static uint64_t met, verdicts, cotangents, answered, reduced;
 
 static salwoerk_report compare(const salwoerk_section *s, salwoerk_load l)
 {
@@ -91,13 +94,14 @@ static salwoerk_report compare(const salwoerk_section *s, salwoerk_load l)
     for (int i = 0; i < SALWOERK_VERDICTS && !e.refusal; i++) verdicts |= 1ull << (3 * i + (int)e.verdicts[i]);
     cotangents |= 1ull << e.cotangent;
     if (!e.refusal) answered |= 1ull << s->grade.situation;
+    if (!e.refusal) reduced |= 1ull << (s->grade.alpha_cc - 80);
     return e;
 }
 
 /* ---- sections */
 
-/* An accepted section of the persistent situation, with so many layers and no links; the places beyond, and the links, hold numbers that no
- * answer may depend on. */
+/* An accepted section of the persistent situation and alpha_cc 100, with so many layers and no links; the places beyond, and the links, hold
+ * numbers that no answer may depend on. */
 static void random_section(salwoerk_section *s, size_t count)
 {
     s->width = between(50, 2000);
@@ -105,6 +109,7 @@ static void random_section(salwoerk_section *s, size_t count)
     s->grade.fck = classes[below(14)];
     s->grade.fyk = between(400, 600);
     s->grade.situation = SALWOERK_PERSISTENT;
+    s->grade.alpha_cc = SALWOERK_RECOMMENDED_ALPHA_CC;
     s->links = (salwoerk_links){ 0, (uint32_t)between(0, 6000), (uint32_t)between(0, 1100) };
     s->count = count;
     for (size_t i = 0; i < 16; i++) {
@@ -128,6 +133,7 @@ static void damage(salwoerk_section *s, salwoerk_load *l)
     static const int64_t fcks[] = { 11, 12, 13, 31, 50, 55, 89, 90, 91, 0, -12, INT64_MIN, INT64_MAX };
     static const int64_t fyks[] = { 399, 400, 401, 599, 600, 601, 0, -500, INT64_MIN, INT64_MAX };
     static const int64_t situations[] = { 0, 1, 2, 3, -1, -2, 257, INT64_MIN, INT64_MAX };
+    static const int64_t factors[] = { 79, 80, 81, 99, 100, 101, 0, -85, 341, INT64_MIN, INT64_MAX };
     static const size_t counts[] = { 0, 1, 15, 16, 17, 18, SIZE_MAX };
     static const uint32_t areas[] = { 0, 1, 19999, 20000, 20001, UINT32_MAX };
     static const uint64_t present[] = { 0, 1, 2, 256, 1ull << 32, UINT64_MAX };
@@ -137,7 +143,7 @@ static void damage(salwoerk_section *s, salwoerk_load *l)
     static const int64_t moments[] = { 1000000000000, 1000000000001, -1000000000000, -1000000000001, INT64_MIN, INT64_MAX, 0, -1, 1 };
     salwoerk_layer *any = &s->layers[below(16)];
     uint32_t depths[] = { 0, 1, (uint32_t)s->height - 1, (uint32_t)s->height, (uint32_t)s->height + 1, UINT32_MAX };
-    switch (below(13)) {
+    switch (below(14)) {
     case 0: s->width = sizes[below(11)]; break;
     case 1: s->height = sizes[below(11)]; break;
     case 2: s->grade.fck = fcks[below(13)]; break;
@@ -151,6 +157,7 @@ static void damage(salwoerk_section *s, salwoerk_load *l)
     case 10: s->links.area = link_areas[below(6)]; break;
     case 11: s->links.spacing = spacings[below(6)]; break;
     case 12: s->grade.situation = situations[below(9)]; break;
+    case 13: s->grade.alpha_cc = factors[below(11)]; break;
     }
 }
 
@@ -208,7 +215,7 @@ static void compare_link_turn(salwoerk_section s, salwoerk_load l, salwoerk_repo
 static void print_met(void)
 {
     printf("answers agree; met: an answer and the refusals");
-    for (int k = 1; k < 33; k++) if (met >> k & 1) printf(" %d", k);
+    for (int k = 1; k < 35; k++) if (met >> k & 1) printf(" %d", k);
     printf("; verdicts");
     for (int k = 0; k < SALWOERK_VERDICTS; k++) {
         printf(" ");
@@ -218,6 +225,8 @@ static void print_met(void)
     for (int c = 0; c < 26; c++) if (cotangents >> c & 1) printf(" %d", c);
     printf("; situations");
     for (int k = 1; k < 3; k++) if (answered >> k & 1) printf(" %d", k);
+    printf("; alpha_cc");
+    for (int a = 0; a < 21; a++) if (reduced >> a & 1) printf(" %d", 80 + a);
     printf("\n");
 }
 
@@ -228,6 +237,7 @@ static void compare_all(void)
         random_section(&s, 1 + below(16));
         salwoerk_load l = { between(-3000000, 6000000), between(-2000000000, 2000000000), between(-1000000, 1000000) };
         if (one_in(2)) s.grade.situation = SALWOERK_ACCIDENTAL;
+        if (one_in(2)) s.grade.alpha_cc = between(80, 100);
         if (one_in(3)) add_links(&s, &l);
         while (one_in(4)) damage(&s, &l);
         salwoerk_report a = compare(&s, l);

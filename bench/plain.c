@@ -10,16 +10,17 @@
 struct materials { int64_t t, e, l, f, g, s, crd; };
 
 /* What is divided by the partial factors, gamma_c in tenths and gamma_s in hundredths; CRd,c is 0.18 / gamma_c. The factors are constants where this
- * is called, so that the compiler leaves no division. */
+ * is called, so that the compiler leaves no division. alpha_cc, in hundredths, is in f and g, each of which is rounded down once. */
 static inline void divide_by(int64_t gamma_c, int64_t gamma_s, const salwoerk_grade *grade, struct materials *m)
 {
-    m->g = 1000 * grade->fck / gamma_c;
-    m->f = grade->fck <= 50 ? m->g : 5 * grade->fck * (250 - grade->fck) / gamma_c;
+    int64_t strength = grade->alpha_cc * grade->fck;
+    m->g = 10 * strength / gamma_c;
+    m->f = grade->fck <= 50 ? m->g : strength * (250 - grade->fck) / (20 * gamma_c);
     m->s = 10000 * grade->fyk / gamma_s;
     m->crd = 180 / gamma_c;
 }
 
-/* Tests 3, 4 and 32: the number of the one that fails, or 0. */
+/* Tests 3, 4, 32 and 34: the number of the one that fails, or 0. */
 static inline int look_up(const salwoerk_grade *grade, struct materials *m)
 {
     switch (grade->fck) {
@@ -41,11 +42,9 @@ static inline int look_up(const salwoerk_grade *grade, struct materials *m)
     }
     m->l = grade->fck <= 50 ? 64 : (370 - grade->fck) / 5;
     if (grade->fyk < 400 || grade->fyk > 600) return 4;
-    switch (grade->situation) {
-    case SALWOERK_PERSISTENT: divide_by(15, 115, grade, m); break;
-    case SALWOERK_ACCIDENTAL: divide_by(12, 100, grade, m); break;
-    default: return 32;
-    }
+    if (grade->situation != SALWOERK_PERSISTENT && grade->situation != SALWOERK_ACCIDENTAL) return 32;
+    if (grade->alpha_cc < 80 || grade->alpha_cc > 100) return 34;
+    if (grade->situation == SALWOERK_PERSISTENT) divide_by(15, 115, grade, m); else divide_by(12, 100, grade, m);
     return 0;
 }
 

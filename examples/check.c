@@ -14,6 +14,7 @@ int main(void)
     a.grade.fck = 30;
     a.grade.fyk = 500;
     a.grade.situation = SALWOERK_PERSISTENT; /* as SALWOERK_SECTION_INIT has it; or SALWOERK_ACCIDENTAL */
+    a.grade.alpha_cc = SALWOERK_RECOMMENDED_ALPHA_CC; /* as SALWOERK_SECTION_INIT has it; or what the national annex has, such as 85 */
     a.count = 1;
     a.layers[0].depth = 450;
     a.layers[0].area = 1500;

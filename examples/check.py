@@ -15,7 +15,8 @@ class Layer(ctypes.Structure):
 
 
 class Grade(ctypes.Structure):
-    _fields_ = [("fck", c_int64), ("fyk", c_int64), ("situation", c_int64)]  # situation: 1 persistent, 2 accidental
+    _fields_ = [("fck", c_int64), ("fyk", c_int64), ("situation", c_int64),  # situation: 1 persistent, 2 accidental
+                ("alpha_cc", c_int64)]  # in hundredths, 80 to 100: 100 is the recommended value
 
 
 class Links(ctypes.Structure):
@@ -39,7 +40,7 @@ class Report(ctypes.Structure):
 def main():
     check = ctypes.CDLL(sys.argv[1]).salwoerk_check
     check.argtypes, check.restype = [Section, Load], Report
-    section = Section(width=300, height=500, grade=Grade(fck=30, fyk=500, situation=1), count=1)
+    section = Section(width=300, height=500, grade=Grade(fck=30, fyk=500, situation=1, alpha_cc=100), count=1)
     section.layers[0] = Layer(depth=450, area=1500)
     section.links = Links(present=1, area=101, spacing=200)
     report = check(section, Load(n=0, m=200_000_000, v=80_000))

@@ -15,6 +15,10 @@
 #include <stdint.h>
 
 /* Of this header: MAJOR changes where a caller must be compiled again, MINOR where something is added, PATCH else.
+ * 5.0.0: a grade holds the long-term factor alpha_cc after the situation; so whoever hands over or gets a section must be compiled again, and sets
+ * grade.alpha_cc to 100 or to what the national annex has (SALWOERK_SECTION_INIT has 100). 0 is no factor: a section that begins as zeros, or a grade of
+ * three numbers, { 30, 500, 1 }, has it, and is refused with 34 once its other fields are set. Bit 25 of a record is no longer refused: it is the factor,
+ * and a record may have 212 bytes.
  * 4.0.0: a grade holds the design situation after fyk; so whoever hands over or gets a section must be compiled again, and sets grade.situation to 1
  * (SALWOERK_SECTION_INIT does). 0 is no situation: a section that begins as zeros, or a grade of two numbers, { 30, 500 }, has it, and is refused with 32
  * once its other fields are set. Bit 24 of a record is no longer refused: it is the situation, and a record may have 204 bytes.
@@ -23,7 +27,7 @@
  * (SALWOERK_SECTION_INIT does). Bit 7 of a record is no longer refused: it is the links. A line of salwoerk_list has a sixth verdict.
  * 2.0.0: verdict one and refusal 12 of salwoerk_check look at both faces, and its answer holds other_u and other_mrd before vrd; so whoever calls
  * it must be compiled again. */
-#define SALWOERK_VERSION_MAJOR 4
+#define SALWOERK_VERSION_MAJOR 5
 #define SALWOERK_VERSION_MINOR 0
 #define SALWOERK_VERSION_PATCH 0
 #define SALWOERK_VERSION (SALWOERK_VERSION_MAJOR * 10000 + SALWOERK_VERSION_MINOR * 100 + SALWOERK_VERSION_PATCH)
@@ -44,8 +48,12 @@ typedef struct { uint32_t depth, area; } salwoerk_layer;
  * and 1.0. Fire is not meant: 2.4.2.4 leaves it to EN 1992-1-2. */
 enum salwoerk_situation { SALWOERK_PERSISTENT = 1, SALWOERK_ACCIDENTAL = 2 };
 
-/* Strengths of concrete and steel in N/mm2, and the situation, one of enum salwoerk_situation. */
-typedef struct { int64_t fck, fyk, situation; } salwoerk_grade;
+/* alpha_cc of 3.1.6(1), in hundredths: the long-term factor of the concrete strength, fcd = alpha_cc fck / gamma_c. 100 is the recommended value; some
+ * national annexes have 85. */
+#define SALWOERK_RECOMMENDED_ALPHA_CC 100
+
+/* Strengths of concrete and steel in N/mm2; the situation, one of enum salwoerk_situation; and alpha_cc in hundredths, 80 to 100. */
+typedef struct { int64_t fck, fyk, situation, alpha_cc; } salwoerk_grade;
 
 /* Vertical links, of steel as fyk: the area of all legs of one link in mm2, the spacing along the member in mm. `present` 0 means none, and then the
  * other two are never read; any other number means that they are there. */
@@ -63,10 +71,10 @@ typedef struct {
     size_t count;
 } salwoerk_section;
 
-/* No layers, no links, a persistent situation and zeros; a field that is added later has here the value that its absence means. Start every
- * section so:
+/* No layers, no links, a persistent situation, the recommended alpha_cc and zeros; a field that is added later has here the value that its absence
+ * means. Start every section so:
  *     salwoerk_section a = SALWOERK_SECTION_INIT; */
-#define SALWOERK_SECTION_INIT { { { 0, 0 } }, 0, 0, { 0, 0, SALWOERK_PERSISTENT }, { 0, 0, 0 }, 0 }
+#define SALWOERK_SECTION_INIT { { { 0, 0 } }, 0, 0, { 0, 0, SALWOERK_PERSISTENT, SALWOERK_RECOMMENDED_ALPHA_CC }, { 0, 0, 0 }, 0 }
 
 /* N and V in newtons, N positive in compression; M in N mm about mid-height, positive where it compresses the top. */
 typedef struct { int64_t n, m, v; } salwoerk_load;
@@ -74,7 +82,7 @@ typedef struct { int64_t n, m, v; } salwoerk_load;
 /* ---- refusals and verdicts */
 
 /* The `refusal` of an answer is 0 or one of these. The first test of a call's sequence that fails gives it; the sequence stands with the call.
- * The section tests are 1 2 3 4 32 5 6 7, the load tests 8 9 10, the link tests 27 28 29, which absent links pass. */
+ * The section tests are 1 2 3 4 32 34 5 6 7, the load tests 8 9 10, the link tests 27 28 29, which absent links pass. */
 enum salwoerk_refusal {
     SALWOERK_ACCEPTED = 0,
     SALWOERK_WIDTH = 1,
@@ -99,7 +107,8 @@ enum salwoerk_refusal {
     SALWOERK_LINK_AREA = 27,
     SALWOERK_LINK_SPACING = 28,
     SALWOERK_LINKS_WITH_AXIAL_FORCE = 29,
-    SALWOERK_SITUATION = 32
+    SALWOERK_SITUATION = 32,
+    SALWOERK_ALPHA_CC = 34 /* not the factor itself */
 };
 
 static inline const char *salwoerk_refusal_text(uint64_t refusal)
@@ -120,7 +129,7 @@ static inline const char *salwoerk_refusal_text(uint64_t refusal)
     case SALWOERK_ABOVE_RANGE: return "N above the internal force at depth 10h, in Check of either face";
     case SALWOERK_DEPTH: return "depth not 1 to 10h tenths of a millimetre";
     case SALWOERK_NO_MAP: return "fewer than 4 bytes";
-    case SALWOERK_UNKNOWN_BIT: return "one of bits 25 to 31 of the map stands";
+    case SALWOERK_UNKNOWN_BIT: return "one of bits 26 to 31 of the map stands";
     case SALWOERK_CUT_RECORD: return "fewer bytes than the map calls for";
     case SALWOERK_MISSING_FIELD: return "one of bits 0 to 3 absent";
     case SALWOERK_SHORT_BUFFER: return "the buffer is too short";
@@ -129,6 +138,7 @@ static inline const char *salwoerk_refusal_text(uint64_t refusal)
     case SALWOERK_LINK_SPACING: return "link spacing not 25 to 1,000 mm";
     case SALWOERK_LINKS_WITH_AXIAL_FORCE: return "links with N not 0";
     case SALWOERK_SITUATION: return "design situation not 1 or 2";
+    case SALWOERK_ALPHA_CC: return "alpha_cc not 80 to 100 hundredths";
     default: return "no refusal of this version";
     }
 }
@@ -140,6 +150,7 @@ static inline const char *salwoerk_refusal_clause(uint64_t refusal)
     case SALWOERK_CONCRETE: return "Table 3.1";
     case SALWOERK_STEEL: return "3.2.2(3)";
     case SALWOERK_SITUATION: return "Table 2.1N";
+    case SALWOERK_ALPHA_CC: return "3.1.6(1)";
     case SALWOERK_BELOW_RANGE:
     case SALWOERK_ABOVE_RANGE:
     case SALWOERK_DEPTH: return "6.1";
@@ -209,8 +220,8 @@ typedef struct {
 salwoerk_report salwoerk_check(salwoerk_section section, salwoerk_load load);
 
 /* Read a record; bytes after it are ignored. Refusals: 20 21 22 23, section tests, load tests, link tests. The length is answered on success, on 23
- * and on the section's, the load's and the links'. links.present is 1 where the record has links; else all of links is 0. grade.situation is 1 where
- * the record has none; of a refused reading it is 0, as is every other field of its section. */
+ * and on the section's, the load's and the links'. links.present is 1 where the record has links; else all of links is 0. grade.situation is 1 and
+ * grade.alpha_cc is 100 where the record has none; of a refused reading they are 0, as is every other field of its section. */
 typedef struct {
     uint64_t refusal;
     size_t length;
@@ -220,7 +231,7 @@ typedef struct {
 salwoerk_reading salwoerk_read(const uint8_t *bytes, size_t length);
 
 /* A record has at most as many bytes. */
-#define SALWOERK_RECORD_ROOM 204
+#define SALWOERK_RECORD_ROOM 212
 
 /* Write a record into the buffer. Refusals: section tests, load tests, link tests, 25. A success answers the length and changes that many first
  * bytes and no others; a refusal changes none. */

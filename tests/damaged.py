@@ -9,7 +9,8 @@ from typing import NamedTuple, Optional
 
 import second
 from samples import I64_MAX, I64_MIN, SIXTEEN, U32_MAX, linked, record
-from second import ACCIDENTAL, ACCIDENTAL_EXAMPLE, EXAMPLE, LINK_BIT, LINKED_EXAMPLE, SITUATION_BIT, Load
+from second import (ACCIDENTAL, ACCIDENTAL_EXAMPLE, ALPHA_CC_BIT, BOTH_EXAMPLE, EXAMPLE, LINK_BIT, LINKED_EXAMPLE,
+                    REDUCED_EXAMPLE, SITUATION_BIT, Load, with_signed)
 
 ROOM = second.INPUT_ROOM
 MAP_0 = bytes(4)
@@ -29,15 +30,8 @@ def fields_of(data):
     return second.fields_read(data, second.bits_that_stand(data))
 
 
-def with_signed(whole, **signed):
-    """The record with these signed fields, by name, in range or not."""
-    bits = {field.name: field.bit for field in second.FIELDS}
-    added = {bits[name]: second.signed_bytes(value) for name, value in signed.items()}
-    return second.assemble({**fields_of(whole), **added})
-
-
 # Every field that a record can have: with links N is 0, so the writer alone never writes it.
-FULL = with_signed(record(linked(SIXTEEN), Load(0, -2_000, 3_000)), n=0, situation=ACCIDENTAL)
+FULL = with_signed(record(linked(SIXTEEN), Load(0, -2_000, 3_000)), n=0, situation=ACCIDENTAL, alpha_cc=85)
 assert len(FULL) == second.LONGEST_RECORD
 
 
@@ -48,7 +42,7 @@ def choices(bits):
 
 def cut_runs():
     """Cut at every byte: 20 below 4 bytes, 22 below the length."""
-    for whole in (EXAMPLE, LINKED_EXAMPLE, ACCIDENTAL_EXAMPLE, FULL):
+    for whole in (EXAMPLE, LINKED_EXAMPLE, ACCIDENTAL_EXAMPLE, REDUCED_EXAMPLE, FULL):
         for size in range(len(whole) + 1):
             refusal = 20 if size < 4 else 22 if size < len(whole) else 0
             last = (refusal,) if size else ()  # nothing left is no record
@@ -104,7 +98,7 @@ def gap_runs():
 
 
 def present_zero_runs():
-    """'a present 0 is read too': each choice of N, M, V and situation there with what its absence means."""
+    """'a present 0 is read too': each choice of N, M, V, situation and αcc there with what its absence means."""
     optional = {field.bit: second.signed_bytes(field.missing) for field in second.OPTIONAL_FIELDS}
     for whole in (EXAMPLE, LINKED_EXAMPLE):  # with links an N that is there is no 29 as long as it is 0
         always = {bit: value for bit, value in fields_of(whole).items() if bit not in optional}
@@ -132,26 +126,56 @@ def link_runs():
     yield Run("28 before 29", with_links(101, 24, n=1) + EXAMPLE, (28, 0))
 
 
-def situation_runs():
-    """Bit 24 as a field (02, request 8), some of it 1 or 2 in one byte alone: after 32 the list goes on."""
-    for situation in (I64_MIN, -2, -1, 0, 1, 2, 3, 255, 256, 257, 2**32 + 1, 2**32 + 2, 2**56, 2**57, I64_MAX):
-        refusal = 0 if situation in (1, 2) else 32
-        yield Run(f"situation {situation}", with_signed(EXAMPLE, situation=situation) + EXAMPLE, (refusal, 0))
-    no_layer = {bit: value for bit, value in fields_of(EXAMPLE).items() if bit not in second.LAYER_BITS}
-    for situation, refusal in ((0, 32), (1, 5), (2, 5), (3, 32)):
-        spoiled = with_signed(second.assemble(no_layer), situation=situation)
-        yield Run(f"no layer, situation {situation}", spoiled + EXAMPLE, (refusal, 0))
-    for fyk in (399, 601):
-        yield Run(f"4 before 32, fyk {fyk}", with_signed(EXAMPLE, fyk=fyk, situation=0) + EXAMPLE, (4, 0))
-    yield Run("32 before 8", with_signed(EXAMPLE, n=I64_MAX, situation=3) + EXAMPLE, (32, 0))
-    yield Run("32 before 27", with_links(0, 200, situation=0) + EXAMPLE, (32, 0))
-    yield Run("one situation after the other", (ACCIDENTAL_EXAMPLE + EXAMPLE) * 3, (0,) * 6)
+class Numbers(NamedTuple):
+    """A signed field after the layers, the refusal of its test, and numbers about it."""
+
+    name: str
+    refusal: int
+    inside: tuple
+    outside: tuple  # some of them a number inside in one byte or in the low four alone
+    earlier: tuple  # fields that an earlier test refuses, with its number
+
+
+NUMBERS = (
+    Numbers("situation", 32, (1, 2),
+            (I64_MIN, -2, -1, 0, 3, 255, 256, 257, 2**32 + 1, 2**32 + 2, 2**56, 2**57, I64_MAX),
+            (({"fyk": 399}, 4), ({"fyk": 601}, 4))),
+    Numbers("alpha_cc", 34, (80, 81, 85, 99, 100),
+            (I64_MIN, -100, -85, -80, -1, 0, 1, 2, 79, 101, 85 * 2**8, 2**8 + 85, 2**32 + 85, 85 * 2**56, I64_MAX),
+            (({"fyk": 601}, 4), ({"situation": 0}, 32), ({"situation": 3}, 32))),
+)
+
+
+def number_runs(field):
+    """Bit 24 or 25 as a field (02, requests 8 and 10): after 32 and 34 the list goes on."""
+    name, number, inside, outside, earlier = field
+    for value in (*inside, *outside):
+        refusal = 0 if value in inside else number
+        yield Run(f"{name} {value}", with_signed(EXAMPLE, **{name: value}) + EXAMPLE, (refusal, 0))
+    no_layer = second.assemble({bit: value for bit, value in fields_of(EXAMPLE).items() if bit not in second.LAYER_BITS})
+    for value in inside:
+        yield Run(f"no layer, {name} {value}", with_signed(no_layer, **{name: value}) + EXAMPLE, (5, 0))
+    for value in {0, inside[0] - 1, inside[-1] + 1}:
+        wrong = {name: value}
+        for spoiled, before in earlier:
+            yield Run(f"{before} before {number}", with_signed(EXAMPLE, **spoiled, **wrong) + EXAMPLE, (before, 0))
+        yield Run(f"{number} before 5", with_signed(no_layer, **wrong) + EXAMPLE, (number, 0))
+        yield Run(f"{number} before 8", with_signed(EXAMPLE, n=I64_MAX, **wrong) + EXAMPLE, (number, 0))
+        yield Run(f"{number} before 27", with_links(0, 200, **wrong) + EXAMPLE, (number, 0))
+
+
+def situation_and_alpha_runs():
+    """Both of these fields, and one case after the other."""
+    for field in NUMBERS:
+        yield from number_runs(field)
+    yield Run("one case after the other", (ACCIDENTAL_EXAMPLE + EXAMPLE + REDUCED_EXAMPLE + BOTH_EXAMPLE) * 3, (0,) * 12)
 
 
 def optional_bit_runs():
-    """The map's tests come before those of links and situation; bit 7 or 24 alone is no longer 21."""
+    """The map's tests come before those of links, situation and αcc; bit 7, 24 or 25 alone is no longer 21."""
     for bit, number, spoiled in ((LINK_BIT, 27, with_links(0, 0)),
-                                 (SITUATION_BIT, 32, with_signed(EXAMPLE, situation=0))):
+                                 (SITUATION_BIT, 32, with_signed(EXAMPLE, situation=0)),
+                                 (ALPHA_CC_BIT, 34, with_signed(EXAMPLE, alpha_cc=0))):
         bare = second.assemble({bit: bytes(8)})
         yield Run(f"bit {bit} alone", bare + EXAMPLE, (23, 0))
         yield Run(f"bit {bit} alone, cut", EXAMPLE + bare[:-1], (0, 22))
@@ -188,5 +212,5 @@ def slow_runs():
 def all_runs():
     """Every fixed run of this file."""
     for group in (cut_runs, forbidden_bit_runs, missing_bit_runs, leftover_runs, gap_runs,
-                  present_zero_runs, link_runs, situation_runs, optional_bit_runs, size_runs, slow_runs):
+                  present_zero_runs, link_runs, situation_and_alpha_runs, optional_bit_runs, size_runs, slow_runs):
         yield from group()

@@ -12,21 +12,22 @@
 TAKES(salwoerk_layer, 8);
 LIES(salwoerk_layer, depth, 0, 4);
 LIES(salwoerk_layer, area, 4, 4);
-TAKES(salwoerk_grade, 24);
+TAKES(salwoerk_grade, 32);
 LIES(salwoerk_grade, fck, 0, 8);
 LIES(salwoerk_grade, fyk, 8, 8);
 LIES(salwoerk_grade, situation, 16, 8);
+LIES(salwoerk_grade, alpha_cc, 24, 8);
 TAKES(salwoerk_links, 16);
 LIES(salwoerk_links, present, 0, 8);
 LIES(salwoerk_links, area, 8, 4);
 LIES(salwoerk_links, spacing, 12, 4);
-TAKES(salwoerk_section, 192);
+TAKES(salwoerk_section, 200);
 LIES(salwoerk_section, layers, 0, 128);
 LIES(salwoerk_section, width, 128, 8);
 LIES(salwoerk_section, height, 136, 8);
-LIES(salwoerk_section, grade, 144, 24);
-LIES(salwoerk_section, links, 168, 16);
-LIES(salwoerk_section, count, 184, 8);
+LIES(salwoerk_section, grade, 144, 32);
+LIES(salwoerk_section, links, 176, 16);
+LIES(salwoerk_section, count, 192, 8);
 TAKES(salwoerk_load, 24);
 LIES(salwoerk_load, n, 0, 8);
 LIES(salwoerk_load, m, 8, 8);
@@ -49,17 +50,18 @@ LIES(salwoerk_report, area, 56, 8);
 LIES(salwoerk_report, cotangent, 64, 8);
 LIES(salwoerk_report, link_resistance, 72, 8);
 LIES(salwoerk_report, verdicts, 80, 48);
-TAKES(salwoerk_reading, 232);
+TAKES(salwoerk_reading, 240);
 LIES(salwoerk_reading, refusal, 0, 8);
 LIES(salwoerk_reading, length, 8, 8);
-LIES(salwoerk_reading, section, 16, 192);
-LIES(salwoerk_reading, load, 208, 24);
+LIES(salwoerk_reading, section, 16, 200);
+LIES(salwoerk_reading, load, 216, 24);
 TAKES(salwoerk_written, 16);
 LIES(salwoerk_written, refusal, 0, 8);
 LIES(salwoerk_written, length, 8, 8);
 
-_Static_assert(SALWOERK_VERSION == 40000, "4.0.0");
-_Static_assert(SALWOERK_RECORD_ROOM == 204, "a map, seven numbers, the links, sixteen layers and the situation");
+_Static_assert(SALWOERK_VERSION == 50000, "5.0.0");
+_Static_assert(SALWOERK_RECORD_ROOM == 212, "a map, seven numbers, the links, sixteen layers, the situation and alpha_cc");
+_Static_assert(SALWOERK_RECOMMENDED_ALPHA_CC == 100, "the recommended value of 3.1.6(1) is 1.0");
 
 /* ---- the calls */
 static int passed, failed;
@@ -103,6 +105,13 @@ static salwoerk_section a_in(int64_t situation)
     return a;
 }
 
+static salwoerk_section a_by(int64_t alpha_cc)
+{
+    salwoerk_section a = section_a();
+    a.grade.alpha_cc = alpha_cc;
+    return a;
+}
+
 /* Sixteen layers, and no two numbers alike; the links are there for whoever sets present. */
 static salwoerk_section distinct_section(void)
 {
@@ -112,6 +121,7 @@ static salwoerk_section distinct_section(void)
     s.grade.fck = 35;
     s.grade.fyk = 503;
     s.grade.situation = SALWOERK_ACCIDENTAL;
+    s.grade.alpha_cc = 87;
     s.links.area = 907;
     s.links.spacing = 311;
     s.count = SALWOERK_LAYERS;
@@ -130,7 +140,7 @@ static uint8_t *put(uint8_t *at, uint64_t number, int bytes)
     return at;
 }
 
-/* Map and fields of a record, written here by the scope document and requests 3 and 8 alone; its length. */
+/* Map and fields of a record, written here by the scope document and requests 3, 8 and 10 alone; its length. */
 static size_t record_of(uint32_t map, const salwoerk_section *s, salwoerk_load load, uint8_t *bytes)
 {
     int64_t fields[] = { s->width, s->height, s->grade.fck, s->grade.fyk, load.n, load.m, load.v };
@@ -140,6 +150,7 @@ static size_t record_of(uint32_t map, const salwoerk_section *s, salwoerk_load l
     if (map >> 7 & 1) at = put(put(at, s->links.area, 4), s->links.spacing, 4);
     for (size_t i = 0; i < s->count; i++) at = put(put(at, s->layers[i].depth, 4), s->layers[i].area, 4);
     if (map >> 24 & 1) at = put(at, (uint64_t)s->grade.situation, 8);
+    if (map >> 25 & 1) at = put(at, (uint64_t)s->grade.alpha_cc, 8);
     return (size_t)(at - bytes);
 }
 
@@ -149,8 +160,8 @@ static void require_read(salwoerk_reading r, size_t length, const salwoerk_secti
     require("read", r.refusal == 0 && r.length == length);
     require("layers", !memcmp(r.section.layers, s->layers, sizeof s->layers) && r.section.count == s->count);
     require("width, height", r.section.width == s->width && r.section.height == s->height);
-    require("fck, fyk, situation", r.section.grade.fck == s->grade.fck && r.section.grade.fyk == s->grade.fyk
-        && r.section.grade.situation == s->grade.situation);
+    require("fck, fyk, situation, alpha_cc", r.section.grade.fck == s->grade.fck && r.section.grade.fyk == s->grade.fyk
+        && r.section.grade.situation == s->grade.situation && r.section.grade.alpha_cc == s->grade.alpha_cc);
     require("N, M, V", r.load.n == load.n && r.load.m == load.m && r.load.v == load.v);
     if (s->links.present)
         require("links", r.section.links.present == 1 && r.section.links.area == s->links.area && r.section.links.spacing == s->links.spacing);
@@ -173,27 +184,35 @@ static void round_trip(const salwoerk_section *s, salwoerk_load load, uint32_t m
     require_read(salwoerk_read(buffer, sizeof buffer), length, s, load);
 }
 
-/* With N and without links, with links and without N, and with links and a present 0 for N, which is the longest record that is read; each in the
- * accidental situation, which stands in the record, and in the persistent one, which does not, but is read where it does. */
-static void records(void)
+/* With N and without links, with links and without N, and with links and a present 0 for N, which is the longest record that is read. `bits` are
+ * those of situation and alpha_cc that the writer sets. */
+static void records_of(salwoerk_section s, uint32_t bits)
 {
     uint8_t longest[SALWOERK_RECORD_ROOM];
-    salwoerk_section s = distinct_section();
-    for (int64_t situation = SALWOERK_PERSISTENT; situation <= SALWOERK_ACCIDENTAL; situation++) {
-        uint32_t bit_24 = situation == SALWOERK_ACCIDENTAL ? 0x01000000 : 0;
-        salwoerk_load load = distinct_load;
-        s.grade.situation = situation;
-        s.links.present = 0;
-        round_trip(&s, load, 0x00FFFF7F | bit_24);
-        s.links.present = 1;
-        load.n = 0;
-        round_trip(&s, load, 0x00FFFFEF | bit_24);
-        require("the longest record", record_of(0x01FFFFFF, &s, load, longest) == sizeof longest);
-        require_read(salwoerk_read(longest, sizeof longest), sizeof longest, &s, load);
-    }
+    salwoerk_load load = distinct_load;
+    s.links.present = 0;
+    round_trip(&s, load, 0x00FFFF7F | bits);
+    s.links.present = 1;
+    load.n = 0;
+    round_trip(&s, load, 0x00FFFFEF | bits);
+    require("the longest record", record_of(0x03FFFFFF, &s, load, longest) == sizeof longest);
+    require_read(salwoerk_read(longest, sizeof longest), sizeof longest, &s, load);
 }
 
-static const salwoerk_section zeros; /* static, so 0 in every field, the situation too */
+/* The accidental situation and an alpha_cc below 100 stand in the record; the persistent one and 100 do not, but are read where they do. */
+static void records(void)
+{
+    salwoerk_section s = distinct_section();
+    records_of(s, 0x03000000);
+    s.grade.situation = SALWOERK_PERSISTENT;
+    records_of(s, 0x02000000);
+    s.grade.alpha_cc = SALWOERK_RECOMMENDED_ALPHA_CC;
+    records_of(s, 0);
+    s.grade.situation = SALWOERK_ACCIDENTAL;
+    records_of(s, 0x01000000);
+}
+
+static const salwoerk_section zeros; /* static, so 0 in every field, situation and alpha_cc too */
 
 static int all_zeros(const salwoerk_reading *r)
 {
@@ -205,20 +224,23 @@ static void refused_reading(void)
     uint8_t bytes[SALWOERK_RECORD_ROOM];
     salwoerk_section s = distinct_section();
     salwoerk_load load = { 0, 700001, -80003 };
-    record_of(0x01FFFFFF, &s, load, bytes);
+    record_of(0x03FFFFFF, &s, load, bytes);
     salwoerk_reading r = salwoerk_read(bytes, sizeof bytes - 1);
     require("22 and zeros", r.refusal == SALWOERK_CUT_RECORD && r.length == 0 && all_zeros(&r));
-    bytes[0] = 2;
+    bytes[0] = 4;
     r = salwoerk_read(bytes, sizeof bytes);
     require("21 and zeros", r.refusal == SALWOERK_UNKNOWN_BIT && r.length == 0 && all_zeros(&r));
     s.links.area = 0;
-    r = salwoerk_read(bytes, record_of(0x01FFFFFF, &s, load, bytes));
+    r = salwoerk_read(bytes, record_of(0x03FFFFFF, &s, load, bytes));
     require("27 of a present area of 0, with its length and zeros", r.refusal == SALWOERK_LINK_AREA && r.length == sizeof bytes && all_zeros(&r));
+    s.grade.alpha_cc = 0;
+    r = salwoerk_read(bytes, record_of(0x03FFFFFF, &s, load, bytes));
+    require("34 of a present 0, with its length and zeros", r.refusal == SALWOERK_ALPHA_CC && r.length == sizeof bytes && all_zeros(&r));
     s.grade.situation = 0;
-    r = salwoerk_read(bytes, record_of(0x01FFFFFF, &s, load, bytes));
+    r = salwoerk_read(bytes, record_of(0x03FFFFFF, &s, load, bytes));
     require("32 of a present 0, with its length and zeros", r.refusal == SALWOERK_SITUATION && r.length == sizeof bytes && all_zeros(&r));
     s.width = 49;
-    r = salwoerk_read(bytes, record_of(0x01FFFFFF, &s, load, bytes));
+    r = salwoerk_read(bytes, record_of(0x03FFFFFF, &s, load, bytes));
     require("1 with its length and zeros", r.refusal == SALWOERK_WIDTH && r.length == sizeof bytes && all_zeros(&r));
 }
 
@@ -274,12 +296,13 @@ static void both_faces(void)
         && !turned.other_mrd);
 }
 
-/* The initializer is persistent and 0 in every other field. */
+/* The initializer is persistent, has the recommended alpha_cc, and is 0 in every other field. */
 static void initializer(void)
 {
     salwoerk_section a = SALWOERK_SECTION_INIT;
     require("the initializer is persistent", a.grade.situation == SALWOERK_PERSISTENT);
-    a.grade.situation = 0;
+    require("and has the recommended alpha_cc", a.grade.alpha_cc == SALWOERK_RECOMMENDED_ALPHA_CC);
+    a.grade.situation = a.grade.alpha_cc = 0;
     require("and else zeros", !memcmp(&a, &zeros, sizeof a));
 }
 
@@ -302,36 +325,81 @@ static void accidental(void)
     require("one and three fail beyond", r.verdicts[0] == SALWOERK_FAIL && r.verdicts[2] == SALWOERK_FAIL && r.verdicts[5] == SALWOERK_PASS);
 }
 
-/* 32, after 4 and before 5, in every call that takes a section. */
+/* Section A with alpha_cc 0.85: concrete and strut have less strength, steel, links and CRd,c have the same. */
+static void reduced(void)
+{
+    salwoerk_section a = a_by(85);
+    salwoerk_load load = { 0, 200000000, 80000 };
+    require("Find a depth, 0.85", salwoerk_find_depth(a, 0).depth == 1598);
+    require("Moment at a depth, 0.85", salwoerk_moment_at(a, 1598).moment == 251755182);
+    salwoerk_report r = salwoerk_check(a, load);
+    require("Check, 0.85", r.refusal == 0 && r.u == 1598 && r.mrd == 251755182 && r.vrd == 86851 && r.dm == 450 && r.area == 1500);
+    require("Check, the other face, 0.85", r.other_u == 428 && r.other_mrd == 5339334);
+    load.m = 251755183;
+    require("verdict one fails beyond", salwoerk_check(a, load).verdicts[0] == SALWOERK_FAIL);
+    load.m = 200000000;
+    a.links = linked_a(101, 200).links;
+    r = salwoerk_check(a, load);
+    require("the links alone, 0.85", r.cotangent == 25 && r.link_resistance == 222308 && r.verdicts[5] == SALWOERK_PASS);
+    a.links = linked_a(200, 100).links;
+    r = salwoerk_check(a, load);
+    require("links and strut, 0.85", r.cotangent == 15 && r.link_resistance == 503346 && r.verdicts[5] == SALWOERK_PASS);
+    a.grade.situation = SALWOERK_ACCIDENTAL;
+    r = salwoerk_check(a, load);
+    require("Check, 0.85 and accidental", r.refusal == 0 && r.u == 1470 && r.mrd == 293342640 && r.vrd == 108564 && r.other_u == 415
+        && r.other_mrd == 6387061);
+}
+
+/* Every call that takes a section answers the refusal; `bit` is that of the field which is refused, or is not. */
+static void require_refusal(salwoerk_section a, uint32_t bit, uint64_t refusal)
+{
+    uint8_t record[SALWOERK_RECORD_ROOM];
+    salwoerk_load load = { 0, 1, 0 };
+    int zero = refusal != 0;
+    salwoerk_depth depth = salwoerk_find_depth(a, 0);
+    require("Find a depth, 32 34 and 0", depth.refusal == refusal && (depth.depth == 0) == zero);
+    salwoerk_moment moment = salwoerk_moment_at(a, 1250);
+    require("Moment at a depth, 32 34 and 0", moment.refusal == refusal && (moment.moment == 0) == zero);
+    salwoerk_report r = salwoerk_check(a, load);
+    require("Check, 32 34 and zeros", r.refusal == refusal && (r.u == 0) == zero && (r.mrd == 0) == zero && (r.vrd == 0) == zero);
+    salwoerk_written written = salwoerk_write(a, load, record, sizeof record);
+    require("Write, 32 34 and 0", written.refusal == refusal && (written.length == 0) == zero);
+    salwoerk_reading reading = salwoerk_read(record, record_of(0x0000012F | bit, &a, load, record));
+    require("Read, 32 34 with its length", reading.refusal == refusal && reading.length == 60);
+    require("zeros where it is refused", all_zeros(&reading) == zero);
+}
+
+/* 32, after 4 and before 34 and 5. */
 static void refused_situations(void)
 {
     static const struct { int64_t situation; uint64_t refusal; } cases[] = {
         { 0, SALWOERK_SITUATION }, { 1, SALWOERK_ACCEPTED }, { 2, SALWOERK_ACCEPTED }, { 3, SALWOERK_SITUATION }, { -1, SALWOERK_SITUATION },
         { 257, SALWOERK_SITUATION }, { 0x100000002, SALWOERK_SITUATION }, { INT64_MIN, SALWOERK_SITUATION }, { INT64_MAX, SALWOERK_SITUATION },
     };
-    uint8_t record[SALWOERK_RECORD_ROOM];
-    salwoerk_load load = { 0, 1, 0 };
-    for (size_t i = 0; i < sizeof cases / sizeof *cases; i++) {
-        uint64_t refusal = cases[i].refusal;
-        int zero = refusal != 0;
-        salwoerk_section a = a_in(cases[i].situation);
-        salwoerk_depth depth = salwoerk_find_depth(a, 0);
-        require("Find a depth, 32 and 0", depth.refusal == refusal && (depth.depth == 0) == zero);
-        salwoerk_moment moment = salwoerk_moment_at(a, 1250);
-        require("Moment at a depth, 32 and 0", moment.refusal == refusal && (moment.moment == 0) == zero);
-        salwoerk_report r = salwoerk_check(a, load);
-        require("Check, 32 and zeros", r.refusal == refusal && (r.u == 0) == zero && (r.mrd == 0) == zero && (r.vrd == 0) == zero);
-        salwoerk_written written = salwoerk_write(a, load, record, sizeof record);
-        require("Write, 32 and 0", written.refusal == refusal && (written.length == 0) == zero);
-        salwoerk_reading reading = salwoerk_read(record, record_of(0x0100012F, &a, load, record));
-        require("Read, 32 with its length", reading.refusal == refusal && reading.length == 60);
-        require("zeros where it is refused", all_zeros(&reading) == zero);
-    }
+    for (size_t i = 0; i < sizeof cases / sizeof *cases; i++) require_refusal(a_in(cases[i].situation), 0x01000000, cases[i].refusal);
     salwoerk_section none = a_in(0);
+    salwoerk_load load = { 0, 1, 0 };
     none.count = 0;
     require("32 before 5", salwoerk_check(none, load).refusal == SALWOERK_SITUATION);
+    none.grade.alpha_cc = 0;
+    require("32 before 34", salwoerk_check(none, load).refusal == SALWOERK_SITUATION);
     none.grade.fyk = 601;
     require("4 before 32", salwoerk_check(none, load).refusal == SALWOERK_STEEL);
+}
+
+/* 34, after 32 and before 5. */
+static void refused_factors(void)
+{
+    static const struct { int64_t alpha_cc; uint64_t refusal; } cases[] = {
+        { 79, SALWOERK_ALPHA_CC }, { 80, SALWOERK_ACCEPTED }, { 100, SALWOERK_ACCEPTED }, { 101, SALWOERK_ALPHA_CC }, { 0, SALWOERK_ALPHA_CC },
+        { 1, SALWOERK_ALPHA_CC }, { -85, SALWOERK_ALPHA_CC }, { 341, SALWOERK_ALPHA_CC }, { 0x100000055, SALWOERK_ALPHA_CC },
+        { INT64_MIN, SALWOERK_ALPHA_CC }, { INT64_MAX, SALWOERK_ALPHA_CC },
+    };
+    for (size_t i = 0; i < sizeof cases / sizeof *cases; i++) require_refusal(a_by(cases[i].alpha_cc), 0x02000000, cases[i].refusal);
+    salwoerk_section none = a_by(0);
+    salwoerk_load load = { 0, 1, 0 };
+    none.count = 0;
+    require("34 before 5", salwoerk_check(none, load).refusal == SALWOERK_ALPHA_CC);
 }
 
 /* Section A with links: the cotangent in tenths, the resistance, and verdict six at the turn of each of its three conditions. */
@@ -431,26 +499,27 @@ static void list(void)
     require("the list", w.refusal == 0 && w.length == sizeof line - 1 && !memcmp(text, line, sizeof line - 1) && text[sizeof line - 1] == 0xA5);
 }
 
-/* Bit 24 in a list: the lines of an accidental section, of a situation that is none, and of one that is left out. */
-static void situations_in_a_list(void)
+/* Bits 24 and 25 in a list: the lines of an accidental section, of a situation that is none, of one left out, and of alpha_cc 0.85 and 0.79. */
+static void grades_in_a_list(void)
 {
     static const char lines[] = "1 0 1250 300000000 108564 450 1500 0 0 0 0 0 2\n2 32 0 0 0 0 0 2 2 2 2 2 2\n"
-        "3 0 1358 257986051 86851 450 1500 0 0 0 0 0 2\n";
-    uint8_t records[3 * SALWOERK_RECORD_ROOM], text[SALWOERK_LIST_ROOM(sizeof records)];
+        "3 0 1358 257986051 86851 450 1500 0 0 0 0 0 2\n4 0 1598 251755182 86851 450 1500 0 0 0 0 0 2\n5 34 0 0 0 0 0 2 2 2 2 2 2\n";
+    const struct { uint32_t bit; salwoerk_section a; } cases[] = {
+        { 0x01000000, a_in(SALWOERK_ACCIDENTAL) }, { 0x01000000, a_in(3) }, { 0, section_a() }, { 0x02000000, a_by(85) }, { 0x02000000, a_by(79) },
+    };
+    uint8_t records[5 * SALWOERK_RECORD_ROOM], text[SALWOERK_LIST_ROOM(sizeof records)];
     salwoerk_load load = { 0, 200000000, 80000 };
-    salwoerk_section accidental = a_in(SALWOERK_ACCIDENTAL), none = a_in(3), persistent = section_a();
-    size_t length = record_of(0x0100016F, &accidental, load, records);
-    length += record_of(0x0100016F, &none, load, records + length);
-    length += record_of(0x0000016F, &persistent, load, records + length);
+    size_t length = 0;
+    for (size_t i = 0; i < sizeof cases / sizeof *cases; i++) length += record_of(0x0000016F | cases[i].bit, &cases[i].a, load, records + length);
     salwoerk_written w = salwoerk_list(records, length, text, sizeof text);
-    require("the situation in a list", w.refusal == 0 && w.length == sizeof lines - 1 && !memcmp(text, lines, sizeof lines - 1));
+    require("situation and alpha_cc in a list", w.refusal == 0 && w.length == sizeof lines - 1 && !memcmp(text, lines, sizeof lines - 1));
 }
 
 /* Each number has a text of its own, and what is none has the text of none. */
 static void texts(void)
 {
-    static const uint64_t refusals[] = { 0, 1, 2, 3, 4, 5, 6, 7, 8, 9, 10, 11, 12, 13, 20, 21, 22, 23, 25, 26, 27, 28, 29, 32 };
-    static const uint64_t none[] = { 14, 19, 24, 30, 31, 33 };
+    static const uint64_t refusals[] = { 0, 1, 2, 3, 4, 5, 6, 7, 8, 9, 10, 11, 12, 13, 20, 21, 22, 23, 25, 26, 27, 28, 29, 32, 34 };
+    static const uint64_t none[] = { 14, 19, 24, 30, 31, 33, 35 };
     size_t count = sizeof refusals / sizeof *refusals;
     int alike = 0;
     for (size_t i = 0; i < count; i++) {
@@ -459,16 +528,17 @@ static void texts(void)
     }
     require("one text a refusal", !alike);
     for (size_t i = 0; i < sizeof none / sizeof *none; i++)
-        require("no refusal 14, 19, 24, 30, 31, 33", salwoerk_refusal_text(none[i]) == salwoerk_refusal_text(99));
+        require("no refusal 14, 19, 24, 30, 31, 33, 35", salwoerk_refusal_text(none[i]) == salwoerk_refusal_text(99));
     require("Table 3.1 behind 3", !strcmp(salwoerk_refusal_clause(SALWOERK_CONCRETE), "Table 3.1") && !*salwoerk_refusal_clause(SALWOERK_WIDTH));
     require("Table 2.1N behind 32", !strcmp(salwoerk_refusal_clause(SALWOERK_SITUATION), "Table 2.1N"));
+    require("3.1.6(1) behind 34", !strcmp(salwoerk_refusal_clause(SALWOERK_ALPHA_CC), "3.1.6(1)"));
     require("verdict one is 6.1", !strcmp(salwoerk_verdict_clause(0), "6.1"));
     require("verdict five is 9.2.1.1(3)", !strcmp(salwoerk_verdict_clause(4), "9.2.1.1(3)") && *salwoerk_verdict_question(4));
     require("verdict six is 6.2.3", !strcmp(salwoerk_verdict_clause(5), "6.2.3") && *salwoerk_verdict_question(5));
     require("no seventh verdict", !*salwoerk_verdict_clause(6) && !*salwoerk_verdict_question(6));
     require("links with N are refused by no clause", !*salwoerk_refusal_clause(SALWOERK_LINKS_WITH_AXIAL_FORCE));
-    require("bits 7 and 24 are no unknown bits", !strstr(salwoerk_refusal_text(SALWOERK_UNKNOWN_BIT), "7")
-        && !strstr(salwoerk_refusal_text(SALWOERK_UNKNOWN_BIT), "24"));
+    require("bits 7, 24 and 25 are no unknown bits",
+        !strcmp(salwoerk_refusal_text(SALWOERK_UNKNOWN_BIT), "one of bits 26 to 31 of the map stands"));
     require("verdicts in words", !strcmp(salwoerk_verdict_text(0), "pass") && !strcmp(salwoerk_verdict_text(1), "fail")
         && !strcmp(salwoerk_verdict_text(2), "not reached"));
 }
@@ -481,13 +551,15 @@ int main(void)
     both_faces();
     initializer();
     accidental();
+    reduced();
     refused_situations();
+    refused_factors();
     links();
     tie();
     present();
     refused_links();
     list();
-    situations_in_a_list();
+    grades_in_a_list();
     texts();
     printf("%d passed, %d failed\n", passed, failed);
     return failed != 0;

@@ -10,6 +10,7 @@ import ctypes
 from ctypes import POINTER, c_int64, c_size_t, c_uint8, c_uint32, c_uint64
 
 import second
+from met import CASES, case_of
 from samples import SIXTEEN, U32_MAX, Sample, UNDER_LOAD, all_samples, record, with_layer
 from second import LINK_TESTS, NO_LINKS, Layer, Links, Load, Section
 from tally import check_accuracy, check_accuracy_of_faces, check_stated
@@ -18,7 +19,7 @@ from tally import check_accuracy, check_accuracy_of_faces, check_stated
 
 STRUCTS = {
     "Layer": [("depth", c_uint32), ("area", c_uint32)],
-    "Grade": [("fck", c_int64), ("fyk", c_int64), ("situation", c_int64)],
+    "Grade": [("fck", c_int64), ("fyk", c_int64), ("situation", c_int64), ("alpha_cc", c_int64)],
     "Links": [("present", c_uint64), ("area", c_uint32), ("spacing", c_uint32)],
     "Section": [("layers", "Layer", 16), ("width", c_int64), ("height", c_int64),
                 ("grade", "Grade"), ("links", "Links"), ("count", c_size_t)],
@@ -101,7 +102,8 @@ class Engine:
         return self.structs["Section"](
             layers=(self.structs["Layer"] * second.PLACES)(*places),
             width=section.width, height=section.height,
-            grade=self.structs["Grade"](fck=section.fck, fyk=section.fyk, situation=section.situation),
+            grade=self.structs["Grade"](fck=section.fck, fyk=section.fyk, situation=section.situation,
+                                        alpha_cc=section.alpha_cc),
             links=self.structs["Links"](**section.links._asdict()), count=section.count)
 
     def load(self, load):
@@ -128,11 +130,12 @@ class Engine:
     def read(self, data):
         """The reading, with every place of the section's layers and the number that says of links."""
         answer = self.calls["read"](lent(data), len(data))
-        given = answer.section
+        given, grade = answer.section, answer.section.grade
         layers = tuple(Layer(layer.depth, layer.area) for layer in given.layers)
         links = Links(given.links.present, given.links.area, given.links.spacing)
-        section = Section(width=given.width, height=given.height, fck=given.grade.fck, fyk=given.grade.fyk,
-                          situation=given.grade.situation, count=given.count, layers=layers, links=links)
+        section = Section(width=given.width, height=given.height, fck=grade.fck, fyk=grade.fyk,
+                          situation=grade.situation, alpha_cc=grade.alpha_cc, count=given.count, layers=layers,
+                          links=links)
         return second.Reading(answer.refusal, answer.length, section,
                               Load(n=answer.load.n, m=answer.load.m, v=answer.load.v))
 
@@ -201,12 +204,13 @@ def hexadecimal(section, load):
     return " ".join(f"{name} {value:x}" for name, value in numbers.items()) + links + " layers " + layers
 
 
-def note_situation(tally, call, section, refusal):
-    """Count in which situation a call answers, and that it has refusal 32."""
-    for situation in second.FACTORS:
-        tally.coverage.note_call(f"{call} answers in situation {situation}",
-                                 refusal == 0 and section.situation == situation)
-    tally.coverage.note_call(f"{call} has refusal 32", refusal == 32)
+def note_case(tally, call, section, refusal):
+    """Count in which situation and with which αcc a call answers, and that it has refusals 32 and 34."""
+    answered_in = case_of(section) if refusal == 0 else None
+    for case in CASES:
+        tally.coverage.note_call(f"{call} answers in {case}", case == answered_in)
+    for number in (32, 34):
+        tally.coverage.note_call(f"{call} has refusal {number}", refusal == number)
 
 
 def compare_depth(tally, rng, engine, sample):
@@ -216,7 +220,7 @@ def compare_depth(tally, rng, engine, sample):
     tally.compare(f"Find a depth, {sample.label}", hexadecimal(section, load),
                   second.find_depth(section, load.n), answer)
     refusal, u = answer
-    note_situation(tally, "Find a depth", section, refusal)
+    note_case(tally, "Find a depth", section, refusal)
     tally.coverage.note_call("Find a depth answers where Check refuses the links",
                              refusal == 0 and links_refused(section, load) != 0)
     if refusal == 0:
@@ -229,7 +233,7 @@ def compare_moment(tally, rng, engine, sample):
     for u in depths_for_moment(rng, sample.section):
         expected = second.moment_at_depth(sample.section, u)
         tally.coverage.refusals[expected[0]] += expected[0] == 13
-        note_situation(tally, "Moment at a depth", sample.section, expected[0])
+        note_case(tally, "Moment at a depth", sample.section, expected[0])
         tally.coverage.note_call("Moment at a depth answers where Check refuses the links",
                                  expected[0] == 0 and links_refused(sample.section, sample.load) != 0)
         tally.compare(f"Moment at depth {u}, {sample.label}",
@@ -257,7 +261,7 @@ def compare_check(tally, rng, engine, sample):
                   second.check(section, load), answer)
     check_stated(tally, sample, answer)
     note_presence(tally, section, load, answer)
-    note_situation(tally, "Check", section, answer.refusal)
+    note_case(tally, "Check", section, answer.refusal)
     if answer.refusal == 0:
         check_accuracy_of_faces(tally, rng, section, load, answer)
 
@@ -275,8 +279,8 @@ def compare_write(tally, rng, engine, sample):
         tally.coverage.refusals[25] += expected[0] == 25
         tally.coverage.note_call("Write sets bit 7 for a present other than 1",
                                  expected[0] == 0 and section.links.present > 1)
-        note_situation(tally, "Write", section, expected[0])
-        for number in (32, *LINK_TESTS):
+        note_case(tally, "Write", section, expected[0])
+        for number in (32, 34, *LINK_TESTS):
             tally.coverage.note_call(f"Write: {number} before 25", expected[0] == number and room == 0)
         tally.compare(f"Write a record, room {room}, {sample.label}",
                       hexadecimal(section, load), (expected, bytes(memory)), answer)
@@ -300,7 +304,7 @@ def compare_read_back(tally, rng, engine, sample):
     written = record(section, load)
     data = written + rng.randbytes(rng.randint(0, 9))
     expected = second.read_record(data)
-    note_situation(tally, "Read back", section, expected.refusal)
+    note_case(tally, "Read back", section, expected.refusal)
     if expected.refusal == 0:
         empty = (Layer(0, 0),) * (second.PLACES - section.count)
         links = section.links._replace(present=1) if second.has_links(section) else NO_LINKS

@@ -3,17 +3,19 @@
 
 The input is the 60-byte example of document 01, "The list", then records
 that meet every refusal after which a list goes on, with and without the links
-of request 3 of 02 and in both situations of request 8, and a 22 at the end.
+of request 3 of 02, in both situations of request 8 and with αcc of request 10,
+and a 22 at the end.
 Both files come from the second implementation (second.py), which is written
 from the paper, and not from the program.
 """
 
 from pathlib import Path
 
-from second import (ACCIDENTAL_A, ACCIDENTAL_EXAMPLE, ACCIDENTAL_TIE, EXAMPLE, EXAMPLE_LIST, FAIL, HEADER,
-                    LAYER_BITS, LINKED_EXAMPLE, MANDATORY_BITS, NO_LOAD, OPTIONAL_FIELDS, PASS, SECTION_A,
-                    SEQUENCES, TIE, UNREADABLE, Layer, Load, assemble, fields_written, layer_bytes,
-                    list_answers, list_text, section_of, signed_bytes, with_links)
+from second import (ACCIDENTAL_A, ACCIDENTAL_EXAMPLE, ACCIDENTAL_TIE, BOTH_A, BOTH_EXAMPLE, BOTH_TIE, EXAMPLE,
+                    EXAMPLE_LIST, FAIL, HEADER, LAYER_BITS, LINKED_EXAMPLE, MANDATORY_BITS, NO_LOAD,
+                    OPTIONAL_FIELDS, PASS, REDUCED_A, REDUCED_EXAMPLE, REDUCED_TIE, SECTION_A, SEQUENCES, TIE,
+                    UNREADABLE, Layer, Load, assemble, fields_written, layer_bytes, list_answers, list_text,
+                    section_of, signed_bytes, with_links)
 
 CRATE = Path(__file__).resolve().parent.parent / "crates" / "check_list"
 
@@ -165,28 +167,83 @@ def accidental_with_line():
     ]
 
 
+def refused_line(number):
+    """The line of a refused record after its number."""
+    return f"{number} 0 0 0 0 0 2 2 2 2 2 2"
+
+
 def situations_with_line():
     """The same for a present 1, for 32 and what stands beside it, and for 11 and 12 when accidental."""
-    def line(number):
-        return f"{number} 0 0 0 0 0 2 2 2 2 2 2"
-
     return [
         (with_present(SECTION_A, "situation"), "0 1358 257986051 86851 450 1500 0 0 0 0 0 2"),
-        (record(situation=0), line(32)),
-        (record(situation=3), line(32)),
-        (record(situation=-1), line(32)),
-        (record(situation=2**32 + 2), line(32)),
-        (record(fyk=399, situation=0), line(4)),   # before 32
-        (record(situation=3, count=0), line(32)),  # before 5
-        (linked(0, 200, section=SECTION_A._replace(situation=0)), line(32)),  # before 27
-        (record(ACCIDENTAL_A, Load(-749_401, 0, 0)), line(11)),
-        (record(ACCIDENTAL_A, Load(3_105_001, 0, 0)), line(12)),
+        (record(situation=0), refused_line(32)),
+        (record(situation=3), refused_line(32)),
+        (record(situation=-1), refused_line(32)),
+        (record(situation=2**32 + 2), refused_line(32)),
+        (record(fyk=399, situation=0), refused_line(4)),   # before 32
+        (record(situation=3, count=0), refused_line(32)),  # before 5
+        (linked(0, 200, section=SECTION_A._replace(situation=0)), refused_line(32)),  # before 27
+        (record(ACCIDENTAL_A, Load(-749_401, 0, 0)), refused_line(11)),
+        (record(ACCIDENTAL_A, Load(3_105_001, 0, 0)), refused_line(12)),
+    ]
+
+
+def reduced_with_line():
+    """Records checked with αcc below 100 in both situations and the line of each: verdicts turn."""
+    a = REDUCED_A
+    return [
+        (REDUCED_EXAMPLE, "0 1598 251755182 86851 450 1500 0 0 0 0 0 2"),
+        (record(a, Load(0, 251_755_182, -86_851)), "0 1598 251755182 86851 450 1500 0 0 0 0 0 2"),
+        (record(a, Load(0, 251_755_183, -86_852)), "0 1598 251755182 86851 450 1500 1 0 1 0 0 2"),
+        (record(a, Load(0, -5_339_334, 0)), "0 428 5339334 14090 50 1500 0 1 0 0 0 2"),
+        (record(a, Load(0, -5_339_335, 0)), "0 428 5339334 14090 50 1500 1 1 0 0 0 2"),
+        (record(a, Load(-651_762, 130_332_016, 0)), "0 1 130535983 0 450 1500 1 0 0 0 0 2"),
+        (record(a, Load(-651_762, 130_332_017, 0)), "0 1 130535983 0 450 1500 0 0 0 0 0 2"),
+        (record(a, Load(174_437, 0, 0)), "0 2025 270061800 110399 450 1500 0 0 0 0 0 2"),
+        (record(a, Load(174_438, 0, 0)), "0 2026 270097687 110400 450 1500 0 1 0 0 0 2"),
+        (record(a, Load(1_000_000, 0, 155_701)), "0 3342 231371318 155701 450 1500 0 1 0 0 0 2"),
+        (record(a, Load(1_000_000, 0, 155_702)), "0 3342 231371318 155701 450 1500 0 1 1 0 0 2"),
+        (record(a, Load(2_145_000, 0, 1)), "0 5000 81000000 0 0 0 0 2 2 2 0 2"),
+        (record(a, fck=90), "0 761 276073519 125256 450 1500 0 0 0 0 0 2"),
+        (record(a, alpha_cc=80), "0 1698 249155986 86851 450 1500 0 0 0 0 0 2"),
+        (record(a, alpha_cc=99), "0 1372 257647244 86851 450 1500 0 0 0 0 0 2"),
+        (record(a, fck=16, alpha_cc=90), "0 2790 217675411 70414 450 1500 0 1 0 0 0 2"),  # f 960, not 959
+        (record(a, fck=80, alpha_cc=90), "0 734 275941062 120425 450 1500 0 0 0 0 0 2"),  # f 4,080, not 4,079
+        (linked(101, 200, Load(0, 0, 222_308), a), "0 1598 251755182 86851 450 1500 0 0 1 0 0 0"),
+        (linked(500, 50, Load(0, 0, 545_292), a), "0 1598 251755182 86851 450 1500 0 0 1 0 0 0"),
+        (linked(500, 50, Load(0, 0, 545_293), a), "0 1598 251755182 86851 450 1500 0 0 1 0 0 1"),
+        (record(REDUCED_TIE), "0 1663 96894369 46831 250 1500 0 1 0 0 0 1"),
+        (BOTH_EXAMPLE, "0 1470 293342640 108564 450 1500 0 0 0 0 0 2"),
+        (record(BOTH_A, Load(0, 293_342_640, 108_564)), "0 1470 293342640 108564 450 1500 0 0 0 0 0 2"),
+        (record(BOTH_A, Load(0, 293_342_641, 108_565)), "0 1470 293342640 108564 450 1500 1 0 1 0 0 2"),
+        (record(BOTH_A, alpha_cc=80), "0 1562 290594995 108564 450 1500 0 0 0 0 0 2"),
+        (record(BOTH_TIE), "0 1569 116595923 58538 250 1500 0 1 0 0 0 0"),
+    ]
+
+
+def alphas_with_line():
+    """The same for a present 100, for 34 and what stands beside it, and for 11 and 12 with αcc 85."""
+    return [
+        (with_present(SECTION_A, "alpha_cc"), "0 1358 257986051 86851 450 1500 0 0 0 0 0 2"),
+        (with_present(ACCIDENTAL_A, "alpha_cc"), "0 1250 300000000 108564 450 1500 0 0 0 0 0 2"),
+        (record(alpha_cc=79), refused_line(34)),
+        (record(alpha_cc=101), refused_line(34)),
+        (record(alpha_cc=0), refused_line(34)),
+        (record(alpha_cc=-85), refused_line(34)),
+        (record(alpha_cc=2**32 + 85), refused_line(34)),
+        (record(situation=3, alpha_cc=79), refused_line(32)),  # before 34
+        (record(alpha_cc=101, count=0), refused_line(34)),     # before 5
+        (record(load=Load(500_000_001, 0, 0), alpha_cc=79), refused_line(34)),  # before 8
+        (linked(0, 200, section=SECTION_A._replace(alpha_cc=101)), refused_line(34)),  # before 27
+        (record(REDUCED_A, Load(-651_763, 0, 0)), refused_line(11)),
+        (record(REDUCED_A, Load(2_145_001, 0, 0)), refused_line(12)),
     ]
 
 
 def main():
     """Write the two files, after a look at what they must have."""
-    verdicts, lines = with_link_verdict(), accidental_with_line() + situations_with_line()
+    verdicts = with_link_verdict()
+    lines = accidental_with_line() + situations_with_line() + reduced_with_line() + alphas_with_line()
     data = b"".join([EXAMPLE, *accepted(), *(piece for piece, _ in verdicts), *refused(),
                      *(piece for piece, _ in lines), record()[:-1]])
     text = list_text(data)

@@ -2,10 +2,12 @@
 
 A comparison that never met a refusal or a verdict has shown nothing about it,
 so each one that the papers make reachable has to be met at least once, verdicts
-and turns in each situation of request 8 of 02.
+and turns in each situation of request 8 of 02, both with αcc 100 and below it
+(request 10), and every αcc with every class in both situations.
 """
 
 from collections import Counter
+from itertools import product
 from math import ceil, floor
 
 import second
@@ -21,6 +23,21 @@ LIBRARY_REFUSALS = tuple(dict.fromkeys(
 # links; links ask for N 0, under which an accepted section has a tension layer.
 REACHABLE = ((0, 1), (0, 1, 2), (0, 1, 2), (0, 1, 2), (0, 1), (0, 1, 2))
 assert len(REACHABLE) == second.VERDICTS
+
+GRADES = tuple(product(second.ALPHAS, second.CLASSES, second.FACTORS))
+
+
+def case_named(situation, reduced):
+    """What the verdicts and turns of these records are counted under."""
+    return f"situation {situation}, αcc " + ("below 100" if reduced else "100")
+
+
+CASES = tuple(case_named(situation, reduced) for reduced, situation in product((False, True), second.FACTORS))
+
+
+def case_of(section):
+    """The case of a section that passed tests 32 and 34."""
+    return case_named(section.situation, section.alpha_cc < second.UNREDUCED)
 
 
 def beside(name, value, bound):
@@ -174,8 +191,21 @@ def turns(section, load, report):
     return found
 
 
+def alpha_turns(section, load, report):
+    """What αcc below 100 alters beside 100, and where one rounding down is not two; never true of αcc 100."""
+    whole = section._replace(alpha_cc=second.UNREDUCED)
+    other = report if whole == section else second.check(whole, load)
+    strengths, others = second.materials_of(section), second.materials_of(whole)
+    for place in (1, 2, 3, 6):
+        yield f"αcc below 100 alters v{place}", (
+            other.refusal == 0 and report.verdicts[place - 1] != other.verdicts[place - 1])
+    for name in ("f", "g"):
+        one, full = getattr(strengths, name), getattr(others, name)
+        yield f"αcc times {name} rounded down twice is another", one != section.alpha_cc * full // 100
+
+
 def presence_turns(subject):
-    """'a present 0 is read too', and a present 1 of the situation: what a record has without need."""
+    """'a present 0 is read too', a present 1 of the situation, 100 of αcc: what a record has without need."""
     fields = second.fields_read(subject, second.bits_that_stand(subject))
     for field in second.OPTIONAL_FIELDS:
         yield f"a present {field.missing} is read: {field.name}", (
@@ -183,65 +213,80 @@ def presence_turns(subject):
 
 
 class Coverage:
-    """Counts over every answer that was compared; verdicts and turns of each situation."""
+    """Counts over every answer that was compared; verdicts and turns of each case."""
 
     def __init__(self):
         self.refusals = Counter()
-        self.verdicts = {situation: [Counter() for _ in REACHABLE] for situation in second.FACTORS}
-        self.turns = {situation: Counter() for situation in second.FACTORS}
+        self.grades = Counter()
+        self.verdicts = {case: [Counter() for _ in REACHABLE] for case in CASES}
+        self.turns = {case: Counter() for case in CASES}
         self.calls = Counter()
 
     def note(self, report, subject):
         """Count a list line of these bytes."""
         self.refusals[report.refusal] += 1
         if report.refusal == 0:
-            situation = second.read_record(subject).section.situation
-            for counter, value in zip(self.verdicts[situation], report.verdicts):
+            section = second.read_record(subject).section
+            self.grades[section.alpha_cc, section.fck, section.situation] += 1
+            for counter, value in zip(self.verdicts[case_of(section)], report.verdicts):
                 counter[value] += 1
             for name, met in presence_turns(subject):
                 self.note_call(name, met)
 
     def note_turns(self, section, load, report):
-        """Count where an accepted sample stands."""
-        for name, met in turns(section, load, report):
-            self.turns[section.situation][name] += met
+        """Count where an accepted sample stands, and what its αcc alters."""
+        self.note_case(section, turns(section, load, report))
+        for name, met in alpha_turns(section, load, report):
+            self.note_call(name, met)
 
     def note_call(self, name, met):
-        """Count what reading a record or one call of the library met, in either situation."""
+        """Count what reading a record, an αcc or one call of the library met, in whichever case."""
         self.calls[name] += met
 
     def note_axial_turns(self, section, load):
         """Count where N of a sample stands that is accepted, 11 or 12."""
-        for name, met in axial_turns(section, load):
-            self.turns[section.situation][name] += met
+        self.note_case(section, axial_turns(section, load))
+
+    def note_case(self, section, found):
+        """Count turns under the case of their section."""
+        counter = self.turns[case_of(section)]
+        for name, met in found:
+            counter[name] += met
 
     def turn_names(self):
-        """Every turn that a record of either situation could have met."""
+        """Every turn that a record of any case could have met."""
         return tuple(dict.fromkeys(name for counter in self.turns.values() for name in counter))
 
     def never_met(self, refusals):
         """What had to be met and was not."""
         missing = [f"refusal {number}" for number in refusals if not self.refusals[number]]
-        for situation in second.FACTORS:
-            missing += [f"verdict {place} of {value}, situation {situation}"
+        missing += [f"αcc {alpha_cc}, fck {fck}, situation {situation}" for alpha_cc, fck, situation in GRADES
+                    if not self.grades[alpha_cc, fck, situation]]
+        for case in CASES:
+            missing += [f"verdict {place} of {value}, {case}"
                         for place, values in enumerate(REACHABLE, 1) for value in values
-                        if not self.verdicts[situation][place - 1][value]]
-            missing += [f"{name}, situation {situation}" for name in self.turn_names()
-                        if not self.turns[situation][name]]
+                        if not self.verdicts[case][place - 1][value]]
+            missing += [f"{name}, {case}" for name in self.turn_names() if not self.turns[case][name]]
         return missing + [name for name, times in self.calls.items() if not times]
 
     def table(self):
         """The counts as lines of text."""
         met = (f"{number}: {times}" for number, times in sorted(self.refusals.items()) if times)
         yield "refusal (0 is none): " + ", ".join(met)
-        for situation, verdicts in self.verdicts.items():
+        together = sum(self.grades[grade] > 0 for grade in GRADES)
+        yield f"αcc with class and situation: {together} of {len(GRADES)} accepted"
+        of_each = ((alpha_cc, sum(times for grade, times in self.grades.items() if grade[0] == alpha_cc))
+                   for alpha_cc in second.ALPHAS)
+        yield "αcc of those accepted: " + ", ".join(f"{alpha_cc}: {times}" for alpha_cc, times in of_each)
+        for case, verdicts in self.verdicts.items():
             accepted = sum(verdicts[0].values())
-            yield f"situation {situation}, {accepted:6} accepted    pass      fail  not reached"
+            yield f"{case + f',{accepted:6} accepted':44}pass      fail  not reached"
             for place, counter in enumerate(verdicts, 1):
-                yield f"  v{place}                     {counter[0]:11}{counter[1]:10}{counter[2]:13}"
-        yield "where the boundary and random records of situations 1 and 2 stand: N, then all else of those accepted"
+                yield f"  v{place}{counter[0]:44}{counter[1]:10}{counter[2]:13}"
+        yield "where the boundary and random records stand, N first, then all else of those accepted, counted in"
+        yield "  " + "; ".join(self.turns)
         for name in self.turn_names():
             yield f"  {name}: " + ", ".join(str(counter[name]) for counter in self.turns.values())
-        yield "values that could be missing and are there, then calls of the library"
+        yield "values that could be missing and are there, what αcc alters, then calls of the library"
         for name, times in self.calls.items():
             yield f"  {name}: {times}"

@@ -1,4 +1,4 @@
-"""What the tests of the commands share: how a command is run, and section A as text and bytes: plain, with links, accidental."""
+"""What the tests of the commands share: how a command is run, and section A in text and bytes: plain, with links, accidental, with αcc."""
 
 import subprocess
 import sys
@@ -36,6 +36,11 @@ LINKED_A_BYTES = bytes.fromhex("000001EF") + SECTION_A_BYTES[4:52] + bytes.fromh
 ACCIDENTAL_A_TEXT = "300 500 30 500 0 200000000 80000 situation=accidental 450/1500\n"
 ACCIDENTAL_A_BYTES = bytes.fromhex("0100016F") + SECTION_A_BYTES[4:] + bytes.fromhex("0000000000000002")
 ACCIDENTAL_A_LINE = b"1 0 1250 300000000 108564 450 1500 0 0 0 0 0 2\n"
+
+# The same in the persistent situation with αcc 0.85: bit 25 stands, and its field follows the layer
+REDUCED_A_TEXT = "300 500 30 500 0 200000000 80000 alphacc=0.85 450/1500\n"
+REDUCED_A_BYTES = bytes.fromhex("0200016F") + SECTION_A_BYTES[4:] + bytes.fromhex("0000000000000055")
+REDUCED_A_LINE = b"1 0 1598 251755182 86851 450 1500 0 0 0 0 0 2\n"
 
 
 def command(tool, *arguments):

@@ -38,6 +38,7 @@ def record(section, load):
 SIXTEEN = second.section_of(
     400, 700, 40, 500, [(50 + 40 * (place // 2), 100 + 10 * place) for place in range(16)])
 SHALLOW = second.section_of(300, 500, 30, 500, [(25, 1_500)])
+THREE = second.section_of(400, 700, 30, 500, [(640, 1_900), (60, 800), (350, 300)])
 UNDER_LOAD = Load(0, 200_000_000, 80_000)
 
 
@@ -54,9 +55,11 @@ def linked(section, **change):
     return section._replace(links=links._replace(**change))
 
 
-def in_each_situation(*sections):
-    """The sections in the situations of request 8 of 02, all in one and then all in the other."""
-    return [section._replace(situation=situation) for situation in second.FACTORS for section in sections]
+def in_each_case(*sections):
+    """The sections in the situations of request 8 of 02 without and then with an αcc of request 10, all in one
+    case and then all in the next: situation 1, 2, then 1 and 2 with αcc 85."""
+    return [section._replace(situation=situation, alpha_cc=alpha_cc)
+            for alpha_cc, situation in product((100, 85), second.FACTORS) for section in sections]
 
 
 def wild(ordinary):
@@ -65,8 +68,9 @@ def wild(ordinary):
 
 
 def field_samples():
-    """Tests 1, 2, 4 and 32 at both sides of their bounds."""
-    bounds = {"width": (1, 50, 2_000), "height": (2, 50, 2_000), "fyk": (4, 400, 600), "situation": (32, 1, 2)}
+    """Tests 1, 2, 4, 32 and 34 at both sides of their bounds."""
+    bounds = {"width": (1, 50, 2_000), "height": (2, 50, 2_000), "fyk": (4, 400, 600), "situation": (32, 1, 2),
+              "alpha_cc": (34, 80, 100)}
     for field, (number, least, most) in bounds.items():
         inside = sorted({least, least + 1, most - 1, most})
         for value in (least - 1, *inside, most + 1, *wild(most)):
@@ -87,7 +91,7 @@ def class_samples():
 def count_samples():
     """Test 5 as a record can meet it: no layer, then 1 to 16 of them."""
     for count in range(17):
-        for section in in_each_situation(SIXTEEN._replace(count=count)):
+        for section in in_each_case(SIXTEEN._replace(count=count)):
             yield Sample(f"{count} layers", section, UNDER_LOAD, 0 if count else 5)
 
 
@@ -118,8 +122,9 @@ def load_samples():
 
 def reference_samples():
     """The cases of section A that are loads or depths, with their refusals."""
-    forces = (-651_690, 2_505_000, 3_052_170), (-749_400, 3_105_000, 3_750_000)  # the least, and the last of each face
-    for a, (least, of_top, of_bottom) in zip(in_each_situation(second.SECTION_A), forces):
+    forces = ((-651_690, 2_505_000, 3_052_170), (-749_400, 3_105_000, 3_750_000),  # the least, and the last of each face
+              (-651_762, 2_145_000, 2_692_170), (-749_490, 2_655_000, 3_300_000))
+    for a, (least, of_top, of_bottom) in zip(in_each_case(second.SECTION_A), forces):
         for n, m in ((0, 0), (0, -1), (least, 0), (of_top, 0)):
             yield Sample(f"A, N {n}, M {m}", a, Load(n, m, 0), 0)
         yield Sample(f"A, N {least - 1}", a, Load(least - 1, 0, 0), 11)
@@ -138,7 +143,7 @@ def least_force(section):
 
 def end_samples():
     """Tests 11 and 12 at the very newton of both faces, whichever M compresses."""
-    for section in in_each_situation(second.SECTION_A, SHALLOW, SIXTEEN, SIXTEEN._replace(fck=70, fyk=463)):
+    for section in in_each_case(second.SECTION_A, SHALLOW, SIXTEEN, SIXTEEN._replace(fck=70, fyk=463)):
         faces = second.upright(section), second.turned_over(section)
         least = least_force(section)
         mosts = [floor(second.internal_force(seen, second.greatest_depth(seen))) for seen in faces]
@@ -152,13 +157,14 @@ def end_samples():
 # One way to fail each test of Check alone, by its number; 6 fails late and 7
 # early, so that a test which does not ask about all layers first answers 7; 29
 # keeps an N that is not 0, so that it can stand before 11 and 12; for 32 the
-# situation is 0, which is not the 1 that a missing one means.
+# situation is 0, which is not the 1 that a missing one means, and so with 34.
 FAILINGS = {
     1: lambda section, load: (section._replace(width=49), load),
     2: lambda section, load: (section._replace(height=2_001), load),
     3: lambda section, load: (section._replace(fck=31), load),
     4: lambda section, load: (section._replace(fyk=601), load),
     32: lambda section, load: (section._replace(situation=0), load),
+    34: lambda section, load: (section._replace(alpha_cc=0), load),
     5: lambda section, load: (section._replace(count=0), load),
     6: lambda section, load: (with_layer(section, 15, depth=0), load),
     7: lambda section, load: (with_layer(section, 0, area=0), load),
@@ -192,12 +198,16 @@ def size_factor_samples():
         yield Sample(f"dm {depth}", deep, second.NO_LOAD, 0)
 
 
-def steel_samples():
-    """Every fyk, with every concrete class in turn, in both situations."""
-    for fyk in range(400, 601):
-        fck = second.CLASSES[fyk % len(second.CLASSES)]
-        for section in in_each_situation(SIXTEEN._replace(fck=fck, fyk=fyk)):
-            yield Sample(f"fyk {fyk}", section, Load(1_000_000, -1, 0), 0)
+def grade_samples():
+    """Every αcc with every concrete class in both situations, and every fyk in turn in each of them; c is the
+    cap, so that g tells as f does."""
+    steels = range(400, 601)
+    for situation in second.FACTORS:
+        for place, (alpha_cc, fck) in enumerate(product(second.ALPHAS, second.CLASSES)):
+            fyk = steels[place % len(steels)]
+            section = THREE._replace(fck=fck, fyk=fyk, situation=situation, alpha_cc=alpha_cc)
+            cap = second.axial_force_for_shear(section, N_MOST)
+            yield Sample(f"fck {fck}, fyk {fyk}, αcc {alpha_cc}", section, Load(cap + 1, -1, 0), 0)
 
 
 def with_steel(section, area):
@@ -208,9 +218,9 @@ def with_steel(section, area):
 def first_verdict_samples():
     """Verdict one at both ends of its interval: of both signs, one sign, or empty."""
     def both_ways(section):
-        return in_each_situation(section, second.turned_over(section))
+        return in_each_case(section, second.turned_over(section))
 
-    cases = [(section, 1_000_000) for section in in_each_situation(SIXTEEN)]
+    cases = [(section, 1_000_000) for section in in_each_case(SIXTEEN)]
     cases += [(section, 0) for section in both_ways(second.NO_MOMENT_SUITS)]
     cases += [(section, n) for section in both_ways(second.SECTION_A) for n in (0, least_force(section))]
     for section, n in cases:
@@ -221,13 +231,14 @@ def first_verdict_samples():
 
 def bending_turn_samples():
     """Verdicts one and two at the turn: MRd of the papers, 10d = u, 5.6.3(2)."""
-    ends = (-6_312_569, 257_986_051), (-7_554_140, 300_000_000)
-    hanger_ends = (130_314_020, 130_553_980), (149_850_024, 150_149_976)
-    for a, *both in zip(in_each_situation(second.SECTION_A), ends, hanger_ends):
+    ends = ((-6_312_569, 257_986_051), (-7_554_140, 300_000_000), (-5_339_334, 251_755_182), (-6_387_061, 293_342_640))
+    hanger_ends = ((130_314_020, 130_553_980), (149_850_024, 150_149_976),
+                   (130_332_017, 130_535_983), (149_872_521, 150_127_479))
+    for a, *both in zip(in_each_case(second.SECTION_A), ends, hanger_ends):
         for n, of_n in zip((0, least_force(a)), both):
             for m in (end + more for end in of_n for more in (-1, 0, 1)):
                 yield Sample(f"A, N {n}, M {m}", a, Load(n, m, 0), 0)
-    for section in in_each_situation(*(second.SECTION_A._replace(fck=fck) for fck in (30, 50, 55, 90))):
+    for section in in_each_case(*(second.SECTION_A._replace(fck=fck) for fck in (30, 50, 55, 90))):
         limit = second.depth_limit(section.fck) * 450 // 10
         for u in (limit, limit + 1, 4_499, 4_500, 4_501):
             n = ceil(second.internal_force(section, u))
@@ -236,15 +247,17 @@ def bending_turn_samples():
 
 def shear_turn_samples():
     """Verdict three at the turn: VRd,c of the papers, the caps on r and c, 35·q, 0."""
-    caps = (600_000, 1_800_000), (750_000, 2_250_000)  # g·b·h/500 for fck 30 and 90
-    for a, vrd, both in zip(in_each_situation(second.SECTION_A), (86_851, 108_564), caps):
+    caps = (600_000, 1_800_000), (750_000, 2_250_000), (510_000, 1_530_000), (637_500, 1_912_500)  # g·b·h/500
+    for a, vrd, both in zip(in_each_case(second.SECTION_A), (86_851, 108_564) * 2, caps):
         for v in (vrd - 1, vrd, vrd + 1, -vrd, -vrd - 1):
             yield Sample(f"A, V {v}", a, Load(0, 0, v), 0)
         for area in (100, 300, 2_699, 2_700, 2_701):  # 35·q in both situations or in one; 50·2,700 is 300·450
             yield Sample(f"A with area {area}", with_steel(a, area), UNDER_LOAD, 0)
-        for fck, cap in zip((30, 90), both):
+        for section, cap in zip((a, a._replace(fck=90)), both):
             for n in (cap - 1, cap, cap + 1):
-                yield Sample(f"fck {fck}, N {n}", a._replace(fck=fck), Load(n, 0, 0), 0)
+                most = second.check(section, Load(n, 0, 0)).vrd
+                for v in (most, -most - 1):
+                    yield Sample(f"fck {section.fck}, N {n}, V {v}", section, Load(n, 0, v), 0)
         for n in (-1, -600_000, least_force(a)):
             yield Sample(f"A, N {n}", a, Load(n, 0, 0), 0)
         yield Sample("A with area 3000, VRd,c 0", with_steel(a, 3_000), Load(-1_000_000, 0, 0), 0)
@@ -257,13 +270,13 @@ def steel_turn_samples():
     strength = second.section_of(200, 600, 90, 520, [(400, 200)])  # 26·50·200·400 = 1,000·200·520
     for section, area in ((a, 176), (a, 204), (ratio, 130), (strength, 200), (a, 6_000)):
         for beside in (area - 1, area, area + 1):                  # 25·6,000 = 300·500
-            for there in in_each_situation(with_steel(section, beside)):
+            for there in in_each_case(with_steel(section, beside)):
                 yield Sample(f"fck {section.fck} with area {beside}", there, second.NO_LOAD, 0)
 
 
 def field_presence_samples():
-    """N, M, V and the situation absent or there, in every combination."""
-    for section, n, m, v in product(in_each_situation(SIXTEEN), (0, -70_000, 70_000), (0, -90_000_000, 90_000_000),
+    """N, M, V, the situation and αcc absent or there, in every combination."""
+    for section, n, m, v in product(in_each_case(SIXTEEN), (0, -70_000, 70_000), (0, -90_000_000, 90_000_000),
                                     (0, -50_000, 50_000)):
         yield Sample(f"loads {n} {m} {v}", section, Load(n, m, v), 0)
 
@@ -312,23 +325,24 @@ def presence_samples():
 
 
 def cotangent_samples():
-    """The cases of requests 3 and 8, and links that bring the cotangent to each of its tenths."""
-    for a, between, v in zip(in_each_situation(second.SECTION_A), (16, 17), (441, 507)):
+    """The cases of requests 3, 8 and 10, and links that bring the cotangent to each of its tenths."""
+    for a, between, v in zip(in_each_case(second.SECTION_A), (16, 17, 15, 16), (441, 507) * 2):
         for area, spacing, tenths in ((101, 200, 25), (500, 50, 10), (200, 100, between)):
             there = linked(a, area=area, spacing=spacing)
             yield Sample(f"A, links {area}/{spacing}", there, UNDER_LOAD, 0, PASS, tenths)
         yield Sample("A, links 1/1000: V, spacing and ratio fail", linked(a, area=1, spacing=1_000), Load(0, 0, v),
                      0, FAIL, 25)
-        for area in range(180, 820, 10):  # 0.9·dm, b, fck and fyk of A: from 2.5 to 1.0
+        for area in range(170, 820, 10):  # 0.9·dm, b, fck and fyk of A: from 2.5 to 1.0
             yield Sample(f"A, links {area}/200", linked(a, area=area), Load(0, 0, -80_000), 0, PASS)
 
 
 def tie_samples():
     """Two cotangents resist the same, or all of them."""
-    yield Sample("a tie of links and strut", second.TIE, second.NO_LOAD, 0, FAIL, 23)
-    yield Sample("a tie of links and strut", second.ACCIDENTAL_TIE, second.NO_LOAD, 0, PASS, 19)
+    for section, sixth, tenths in ((second.TIE, FAIL, 23), (second.ACCIDENTAL_TIE, PASS, 19),
+                                   (second.REDUCED_TIE, FAIL, 18), (second.BOTH_TIE, PASS, 23)):
+        yield Sample("a tie of links and strut", section, second.NO_LOAD, 0, sixth, tenths)
     at_1 = second.section_of(52, 50, 12, 400, [(1, 20_000)])  # dm 1: two struts, or all links, of equal newtons
-    for section in in_each_situation(linked(at_1, area=5_000, spacing=25), linked(at_1, area=1, spacing=1_000)):
+    for section in in_each_case(linked(at_1, area=5_000, spacing=25), linked(at_1, area=1, spacing=1_000)):
         yield Sample("a tie", section, second.NO_LOAD, 0, FAIL, 10)
 
 
@@ -369,7 +383,7 @@ def resistance_turns(section, m, last):
 
 def link_turn_samples():
     """Verdict six at the turn of spacing, of ratio and of V, the other two within, for both faces."""
-    for section in in_each_situation(*LINKED_SECTIONS):
+    for section in in_each_case(*LINKED_SECTIONS):
         for m in (0, -1):
             last = last_spacing(second.check(section, Load(0, m, 0)).dm)
             for turns in (spacing_turns, ratio_turns, resistance_turns):
@@ -379,7 +393,7 @@ def link_turn_samples():
 def exact_ratio_samples():
     """The least ratio itself passes: 0.08·√fck/fyk is 20/(100·250) for 25 and 500 and for 16 and 400."""
     for fck, fyk in ((25, 500), (16, 400)):
-        for section in in_each_situation(second.section_of(250, 500, fck, fyk, [(450, 1_500)])):
+        for section in in_each_case(second.section_of(250, 500, fck, fyk, [(450, 1_500)])):
             for area in (19, 20, 21):
                 yield Sample(f"fck {fck}, links {area}/100", linked(section, area=area, spacing=100), second.NO_LOAD,
                              0, passes(area >= 20))
@@ -390,6 +404,6 @@ def all_samples():
     for group in (field_samples, class_samples, count_samples, layer_samples, load_samples,
                   reference_samples, end_samples, order_samples, first_verdict_samples,
                   bending_turn_samples, shear_turn_samples, steel_turn_samples,
-                  size_factor_samples, steel_samples, field_presence_samples, link_range_samples,
+                  size_factor_samples, grade_samples, field_presence_samples, link_range_samples,
                   presence_samples, cotangent_samples, tie_samples, link_turn_samples, exact_ratio_samples):
         yield from group()

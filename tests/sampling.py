@@ -13,7 +13,8 @@ import second
 from damaged import Run, fields_of
 from samples import (FAILINGS, I64_MAX, I64_MIN, M_MOST, Sample, last_spacing, least_link_area, linked, passes,
                      record, with_layer)
-from second import ACCIDENTAL, FAIL, LINK_BIT, NOT_REACHED, PERSISTENT, SITUATION_BIT, Layer, Links, Load
+from second import (ACCIDENTAL, ALPHA_CC_BIT, FAIL, LINK_BIT, NOT_REACHED, PERSISTENT, SITUATION_BIT, UNREDUCED,
+                    Layer, Links, Load)
 
 
 def edged(rng, least, most):
@@ -66,14 +67,19 @@ def own_area(rng, section, layers):
     return layers[-1].area
 
 
-def either_situation(rng):
-    """Accidental one time in three."""
-    return rng.choice((PERSISTENT, PERSISTENT, ACCIDENTAL))
+def any_case(rng):
+    """Accidental one time in three; αcc below 100 one time in two, and then often 85."""
+    return {"situation": rng.choice((PERSISTENT, PERSISTENT, ACCIDENTAL)),
+            "alpha_cc": rng.choice((UNREDUCED, UNREDUCED, 85, rng.choice(second.ALPHAS[:-1])))}
 
 
-def any_situation(rng):
-    """A situation of any number, in range or not."""
-    return rng.choice((-1, 0, 1, 2, 2, 3, rng.randint(I64_MIN, I64_MAX)))
+# Numbers of a situation and of αcc at both sides of their bounds
+CASE_NUMBERS = {"situation": (-1, 0, 1, 2, 2, 3), "alpha_cc": (0, 1, 79, 80, 85, 100, 101)}
+
+
+def any_number(rng, name):
+    """A situation or an αcc of any number, in range or not."""
+    return rng.choice((*CASE_NUMBERS[name], rng.randint(I64_MIN, I64_MAX)))
 
 
 def random_section(rng):
@@ -83,8 +89,7 @@ def random_section(rng):
         width = 25 * rng.randint(2, 80)
     fyk = rng.choice((400, 500, 500, 600, rng.randint(400, 600)))
     layers = random_layers(rng, height)
-    section = second.section_of(width, height, rng.choice(second.CLASSES), fyk, layers,
-                                situation=either_situation(rng))
+    section = second.section_of(width, height, rng.choice(second.CLASSES), fyk, layers, **any_case(rng))
     turn = rng.choice((own_area, own_area, least_area, most_area))
     area = held(beside(rng, turn(rng, section, layers)), 1, 20_000)
     return with_layer(section, len(layers) - 1, area=area)
@@ -96,7 +101,7 @@ def lopsided_section(rng):
     cover = rng.randint(1, 3)
     layer = Layer(rng.choice((cover, height - cover)), rng.randint(1, 20_000))
     return second.section_of(width, height, rng.choice(second.CLASSES), rng.randint(400, 600), [layer],
-                             situation=either_situation(rng))
+                             **any_case(rng))
 
 
 # --- loads ------------------------------------------------------------------
@@ -217,7 +222,7 @@ def tie_sample(rng, label):
         width, height, sign = rng.randint(50, 400), rng.randint(60, 500), rng.choice((1, -1))
         depth = rng.randint(20, height - 20)
         section = second.section_of(width, height, rng.choice(second.CLASSES), rng.randint(400, 600),
-                                    [(depth, rng.randint(100, 3_000))], situation=either_situation(rng))
+                                    [(depth, rng.randint(100, 3_000))], **any_case(rng))
         dm = depth if sign > 0 else height - depth
         found = tie_links(rng, section, dm)
         if found:
@@ -226,14 +231,15 @@ def tie_sample(rng, label):
 
 
 def spoiled(rng, section, load):
-    """One test made to fail, any links, any situation, or one field replaced by any 64-bit number."""
+    """One test made to fail, any links, any situation or αcc, or one field replaced by any 64-bit number."""
     kind = rng.random()
     if kind < 0.5:
         return rng.choice(list(FAILINGS.values()))(section, load)
     if kind < 0.6:
         return section._replace(links=any_links(rng)), load
     if kind < 0.7:
-        return section._replace(situation=any_situation(rng)), load
+        name = rng.choice(list(CASE_NUMBERS))
+        return section._replace(**{name: any_number(rng, name)}), load
     value = rng.choice((rng.randint(I64_MIN, I64_MAX), rng.randint(-2_100, 2_100)))
     field = rng.choice([field.name for field in second.FIELDS])
     if field in load._fields:
@@ -298,7 +304,8 @@ def damaged_run(rng, records):
 # Bits whose field comes or goes in a record that stays whole, and the bytes of such a field
 TURNED_BITS = {
     LINK_BIT: lambda rng: second.link_bytes(any_links(rng)),
-    SITUATION_BIT: lambda rng: second.signed_bytes(any_situation(rng)),
+    SITUATION_BIT: lambda rng: second.signed_bytes(any_number(rng, "situation")),
+    ALPHA_CC_BIT: lambda rng: second.signed_bytes(any_number(rng, "alpha_cc")),
 }
 
 
@@ -313,7 +320,7 @@ def with_bit_turned(rng, data, bit):
 
 
 def bit_turned_run(rng, records):
-    """Some records, one of them with the bit of its links or of its situation turned."""
+    """Some records, one of them with the bit of its links, of its situation or of its αcc turned."""
     place, bit = rng.randrange(len(records)), rng.choice(list(TURNED_BITS))
     turned = with_bit_turned(rng, records[place], bit)
     return Run(f"bit {bit} turned at random", b"".join((*records[:place], turned, *records[place + 1:])))

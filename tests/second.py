@@ -9,7 +9,8 @@ read beside the papers.
 
 Run by itself it answers every row of "Reference cases" and prints 'ok' or
 'DIFFERS' for each; the expected values there are the papers', and the project's
-own for the section that no M suits, for the links and for the accidental situation.
+own for the section that no M suits, for the links, for the accidental situation
+and for αcc below 1.
 """
 
 import sys
@@ -43,16 +44,19 @@ class Links(NamedTuple):
 NO_LINKS = Links(0, 0, 0)
 
 PERSISTENT, ACCIDENTAL = 1, 2  # "a design situation: 1 persistent ... or 2 accidental" (02, request 8)
+ALPHAS = range(80, 101)  # αcc "is given in hundredths, 80 to 100" (02, request 10)
+UNREDUCED = 100          # "missing means 100, and the writer omits 100"
 
 
 class Section(NamedTuple):
-    """Width b, height h, concrete class, steel, situation, the counted layers, and links."""
+    """Width b, height h, concrete class, steel, situation, αcc, the counted layers, and links."""
 
     width: int   # b, mm
     height: int  # h, mm
     fck: int     # N/mm²
     fyk: int     # N/mm²
     situation: int
+    alpha_cc: int  # hundredths
     count: int
     layers: tuple  # the places; those beyond the count are never read
     links: Links
@@ -66,11 +70,11 @@ class Load(NamedTuple):
     v: int  # N
 
 
-def section_of(width, height, fck, fyk, layers, links=NO_LINKS, situation=PERSISTENT):
+def section_of(width, height, fck, fyk, layers, links=NO_LINKS, situation=PERSISTENT, alpha_cc=UNREDUCED):
     """A section whose places beyond its layers hold zeros, as a read one has."""
     given = tuple(Layer(*layer) for layer in layers)
     empty = (Layer(0, 0),) * (PLACES - len(given))
-    return Section(width, height, fck, fyk, situation, len(given), given + empty, links)
+    return Section(width, height, fck, fyk, situation, alpha_cc, len(given), given + empty, links)
 
 
 def links_of(area, spacing):
@@ -78,7 +82,7 @@ def links_of(area, spacing):
     return Links(1, area, spacing)
 
 
-NO_SECTION = section_of(0, 0, 0, 0, (), situation=0)
+NO_SECTION = section_of(0, 0, 0, 0, (), situation=0, alpha_cc=0)
 NO_LOAD = Load(0, 0, 0)
 
 
@@ -137,14 +141,16 @@ def strength_factor(fck):
 
 
 @lru_cache(maxsize=None)
-def materials(fck, fyk, situation):
+def materials(fck, fyk, situation, alpha_cc=UNREDUCED):
     """'Strengths are in hundredths of N/mm², rounded down once'; 'in the accidental
-    case f, g and s use the new factors' (02, request 8)."""
+    case f, g and s use the new factors' (02, request 8); 'f and g are both multiplied
+    by αcc before their one rounding down' (request 10)."""
     factors = FACTORS[situation]
-    concrete = 100 * fck / factors.concrete  # 100·fck/1.5, or 1.2
-    steel = 100 * fyk / factors.steel        # 100·fyk/1.15, or 1.0
+    long_term = Fraction(alpha_cc, 100)                  # "in hundredths"
+    concrete = long_term * 100 * fck / factors.concrete  # αcc·100·fck/1.5, or 1.2
+    steel = 100 * fyk / factors.steel                    # 100·fyk/1.15, or 1.0
     block_depth = 80 * depth_factor(fck)
-    assert block_depth.denominator == 1      # "L ... always whole"
+    assert block_depth.denominator == 1                  # "L ... always whole"
     return Materials(
         T=T_ROW[CLASSES.index(fck)],
         E=E_ROW[CLASSES.index(fck)],
@@ -156,8 +162,8 @@ def materials(fck, fyk, situation):
 
 
 def materials_of(section):
-    """The materials of a section that passed tests 3, 4 and 32."""
-    return materials(section.fck, section.fyk, section.situation)
+    """The materials of a section that passed tests 3, 4, 32 and 34."""
+    return materials(section.fck, section.fyk, section.situation, section.alpha_cc)
 
 
 # --------------------------------------------------------------------------
@@ -582,8 +588,9 @@ class Field(NamedTuple):
 
 # "Bits 0 to 6: b, h, fck, fyk, N, M, V"; "Bits 0 to 3 must stand"; "N, M or V
 # may be missing and is then 0"; of the situation "a missing value means 1", and
-# "it is a signed 8-byte field at bit 24" (02, request 8)
-SITUATION_BIT = 24
+# "it is a signed 8-byte field at bit 24" (02, request 8); αcc is "a signed field at
+# bit 25 after the situation; missing means 100" (request 10)
+SITUATION_BIT, ALPHA_CC_BIT = 24, 25
 FIELDS = (
     Field(0, "width", None),
     Field(1, "height", None),
@@ -593,6 +600,7 @@ FIELDS = (
     Field(5, "m", 0),
     Field(6, "v", 0),
     Field(SITUATION_BIT, "situation", PERSISTENT),
+    Field(ALPHA_CC_BIT, "alpha_cc", UNREDUCED),
 )
 LINK_BIT = 7  # "Bit 7 of the record becomes a field of link area in mm² (4 bytes) and spacing" (02, request 3)
 LAYER_BITS = range(8, 24)  # "Bits 8 to 23: layers"
@@ -601,7 +609,7 @@ SIGNED_BITS = tuple(field.bit for field in FIELDS)
 MANDATORY_BITS = tuple(field.bit for field in FIELDS if field.missing is None)
 OPTIONAL_FIELDS = tuple(field for field in FIELDS if field.missing is not None)
 KNOWN_BITS = (*SIGNED_BITS, LINK_BIT, *LAYER_BITS)
-FORBIDDEN_BITS = tuple(bit for bit in range(32) if bit not in KNOWN_BITS)  # "bit 24 is no longer 21", nor is bit 7
+FORBIDDEN_BITS = tuple(bit for bit in range(32) if bit not in KNOWN_BITS)  # "no longer 21": bits 7, 24 and 25
 
 
 def record_length(bits):
@@ -626,7 +634,7 @@ def assemble(fields):
 
 
 def signed_bytes(number):
-    """Bits 0 to 6, 'each signed', and 24: big-endian."""
+    """Bits 0 to 6, 'each signed', 24 and 25: big-endian."""
     return number.to_bytes(8, "big", signed=True)
 
 
@@ -658,7 +666,8 @@ def numbers_of(section, load):
 
 def fields_written(section, load):
     """'The writer omits a zero N, M or V and uses the lowest layer bits'; it 'sets
-    bit 7 when they are present' (02, request 3) and 'omits 1' (request 8)."""
+    bit 7 when they are present' (02, request 3), 'omits 1' of the situation (request
+    8) and 'omits 100' of αcc (request 10)."""
     numbers = numbers_of(section, load)
     fields = {field.bit: signed_bytes(numbers[field.bit]) for field in FIELDS
               if numbers[field.bit] != field.missing}
@@ -675,7 +684,7 @@ def fields_read(data, bits):
 
 
 def meaning(fields):
-    """'N, M or V may be missing and is then 0', the situation 1; 'layers are taken by rising bit'."""
+    """'N, M or V may be missing and is then 0', the situation 1, αcc 100; 'layers are taken by rising bit'."""
     numbers = {field.name: int.from_bytes(fields[field.bit], "big", signed=True)
                if field.bit in fields else field.missing for field in FIELDS}
     load = Load(**{name: numbers.pop(name) for name in Load._fields})
@@ -690,7 +699,7 @@ def meaning(fields):
 
 
 # The numbers in the paper's sequence, which need not be a rising one.
-SECTION_TESTS = (1, 2, 3, 4, 32, 5, 6, 7)  # 32 of request 8 of 02, "after 4"
+SECTION_TESTS = (1, 2, 3, 4, 32, 34, 5, 6, 7)  # of 02, 32 of request 8 "after 4", 34 of request 10 "after 32"
 LOAD_TESTS = (8, 9, 10)
 LINK_TESTS = (27, 28, 29)  # of request 3 of 02, "directly after 10"
 FACE_TESTS = (11, 12)
@@ -718,7 +727,8 @@ def first_failing(tests):
 
 def section_tests(section):
     """The section tests, with '32 situation other than 1 or 2, after 4' (02, request
-    8); 'a test over layers asks about all of them'."""
+    8) and '34 αcc outside 80 to 100, after 32' (request 10); 'a test over layers asks
+    about all of them'."""
     layers = counted(section)
     return (
         (1, outside(section.width, 50, 2_000)),
@@ -726,6 +736,7 @@ def section_tests(section):
         (3, section.fck not in CLASSES),
         (4, outside(section.fyk, 400, 600)),
         (32, section.situation not in FACTORS),
+        (34, section.alpha_cc not in ALPHAS),
         (5, outside(section.count, 1, PLACES)),
         (6, any(outside(layer.depth, 1, section.height - 1) for layer in layers)),
         (7, any(outside(layer.area, 1, 20_000) for layer in layers)),
@@ -907,6 +918,8 @@ SECTION_A = section_of(300, 500, 30, 500, [(450, 1_500)])
 NO_MOMENT_SUITS = section_of(50, 50, 25, 400, [(1, 1_500)])  # under N 0 verdict one has an empty interval
 TIE = section_of(200, 300, 35, 500, [(250, 1_500)], links_of(312, 365))  # cotangents 23 and 24 resist the same
 ACCIDENTAL_TIE = TIE._replace(links=links_of(204, 161), situation=ACCIDENTAL)  # 19 and 20 here
+REDUCED_TIE = TIE._replace(links=links_of(305, 283), alpha_cc=85)  # 18 and 19 here
+BOTH_TIE = TIE._replace(links=links_of(124, 157), situation=ACCIDENTAL, alpha_cc=85)  # 23 and 24 again
 EXAMPLE = bytes.fromhex(
     "0000016F" "000000000000012C" "00000000000001F4" "000000000000001E"
     "00000000000001F4" "000000000BEBC200" "0000000000013880" "000001C2000005DC")
@@ -923,7 +936,19 @@ ACCIDENTAL_EXAMPLE = bytes.fromhex(  # the same without links, and 2 at bit 24
     "00000000000001F4" "000000000BEBC200" "0000000000013880" "000001C2000005DC" "0000000000000002")
 ACCIDENTAL_LIST = ("rec ref u mrd vrd dm as v1 v2 v3 v4 v5 v6\n"
                    "1 0 1250 300000000 108564 450 1500 0 0 0 0 0 2\n")
-EXAMPLE_LOAD = Load(0, 200_000_000, 80_000)  # of all three examples
+REDUCED_A = SECTION_A._replace(alpha_cc=85)  # "as source document 004 does with 0.85" (02, request 10)
+REDUCED_EXAMPLE = bytes.fromhex(  # the first again, and 85 at bit 25
+    "0200016F" "000000000000012C" "00000000000001F4" "000000000000001E"
+    "00000000000001F4" "000000000BEBC200" "0000000000013880" "000001C2000005DC" "0000000000000055")
+REDUCED_LIST = ("rec ref u mrd vrd dm as v1 v2 v3 v4 v5 v6\n"
+                "1 0 1598 251755182 86851 450 1500 0 0 0 0 0 2\n")
+BOTH_A = ACCIDENTAL_A._replace(alpha_cc=85)
+BOTH_EXAMPLE = bytes.fromhex(  # 2 at bit 24, and 85 at bit 25 "after the situation"
+    "0300016F" "000000000000012C" "00000000000001F4" "000000000000001E" "00000000000001F4"
+    "000000000BEBC200" "0000000000013880" "000001C2000005DC" "0000000000000002" "0000000000000055")
+BOTH_LIST = ("rec ref u mrd vrd dm as v1 v2 v3 v4 v5 v6\n"
+             "1 0 1470 293342640 108564 450 1500 0 0 0 0 0 2\n")
+EXAMPLE_LOAD = Load(0, 200_000_000, 80_000)  # of all five examples
 
 
 def equilibrium_rows():
@@ -1004,27 +1029,39 @@ def with_links(section, area, spacing):
     return section._replace(links=links_of(area, spacing))
 
 
+def link_answer(section, links, m=0):
+    """Cotangent and resistance of the section with these links."""
+    report = check(with_links(section, *links), Load(0, m, 0))
+    return report.cotangent, report.link_resistance
+
+
+def verdicts_under(section, place, *loads):
+    """One of the section's verdicts under each load."""
+    return [check(section, Load(*load)).verdicts[place - 1] for load in loads]
+
+
+def shear_resistances(section, *ns):
+    """VRd,c of the section under each N."""
+    return [check(section, Load(n, 0, 0)).vrd for n in ns]
+
+
 def link_rows():
     """Request 3 of 02: cotangent and resistance."""
-    def answer(section, links, m=0):
-        report = check(with_links(section, *links), Load(0, m, 0))
-        return report.cotangent, report.link_resistance
-
     def both(tenths):
         return steel_resistance(TIE, 250, tenths), strut_resistance(TIE, 250, tenths)
 
     a, high, at_1 = SECTION_A, SECTION_A._replace(fck=90), section_of(50, 50, 12, 400, [(1, 20_000)])
     return [
-        ("A, links 101/200: cotangent and resistance", answer(a, (101, 200)), (25, 222_308)),
-        ("A, links 500/50", answer(a, (500, 50)), (10, 641_520)),
-        ("A, links 200/100", answer(a, (200, 100)), (16, 563_474)),
+        ("A, links 101/200: cotangent and resistance", link_answer(a, (101, 200)), (25, 222_308)),
+        ("A, links 500/50", link_answer(a, (500, 50)), (10, 641_520)),
+        ("A, links 200/100", link_answer(a, (200, 100)), (16, 563_474)),
         ("a tie: links and strut at 23", both(23), (192_327, 198_086)),
         ("a tie: links and strut at 24", both(24), (200_689, 192_327)),
-        ("a tie: the smallest", answer(TIE, (312, 365)), (23, 192_327)),
-        ("a tie of two struts, dm 1", answer(at_1, (5_000, 25)), (10, 102)),
-        ("a tie of all links at 0 newtons, dm 1", answer(at_1, (1, 1_000)), (10, 0)),
-        ("A, M -1, links 101/37: dm 50", answer(a, (101, 37), -1), (13, 68_895)),
-        ("A with fck 90, links 500/50: g and not f", answer(high, (500, 50)), (10, 1_399_680)),
+        ("a tie: the smallest", link_answer(TIE, (312, 365)), (23, 192_327)),
+        ("a tie of two struts, dm 1", link_answer(at_1, (5_000, 25)), (10, 102)),
+        ("a tie of all links at 0 newtons, dm 1", link_answer(at_1, (1, 1_000)), (10, 0)),
+        ("A, M -1, links 101/37: dm 50", link_answer(a, (101, 37), -1), (13, 68_895)),
+        ("A with fck 90, links 500/50: g and not f", link_answer(high, (500, 50)), (10, 1_399_680)),
         ("A without links", check(a, NO_LOAD)[-3:], (0, 0, (0, 0, 0, 0, 0, 2))),
     ]
 
@@ -1087,12 +1124,12 @@ def link_refusal_rows():
 
 def link_record_rows():
     """Request 3 of 02: links in the record."""
-    full = section_of(300, 500, 30, 500, [(450, 100)] * PLACES, links_of(101, 200), ACCIDENTAL)
+    full = section_of(300, 500, 30, 500, [(450, 100)] * PLACES, links_of(101, 200), ACCIDENTAL, 85)
     load = Load(0, -1, 1)
     written = bytearray(LONGEST_RECORD)
     refusal, length = write_record(full._replace(links=Links(2**63, 101, 200)), load, written)
 
-    def longest(n):  # the writer omits N 0, so no record that it writes has all 25 fields
+    def longest(n):  # the writer omits N 0, so no record that it writes has all 26 fields
         reading = read_record(assemble({**fields_written(full, load), 4: signed_bytes(n)}))
         return reading.refusal, reading.length, reading.section.links
 
@@ -1106,10 +1143,10 @@ def link_record_rows():
         ("a record with links: what it prints", list_text(LINKED_EXAMPLE), LINKED_LIST),
         ("a record with links: the writer's bytes",
          assemble(fields_written(with_links(SECTION_A, 101, 200), EXAMPLE_LOAD)), LINKED_EXAMPLE),
-        ("the longest that is written", (refusal, length), (0, 196)),
-        ("the round trip carries links and situation", read_record(written)[2:], (full, load)),
-        ("the longest, N present as 0", longest(0), (0, 204, links_of(101, 200))),
-        ("the longest, N 1", longest(1), (29, 204, NO_LINKS)),
+        ("the longest that is written", (refusal, length), (0, 204)),
+        ("the round trip carries links, situation and αcc", read_record(written)[2:], (full, load)),
+        ("the longest, N present as 0", longest(0), (0, 212, links_of(101, 200))),
+        ("the longest, N 1", longest(1), (29, 212, NO_LINKS)),
         ("bit 7 with area 0", bare(0), (27, 52)),
         ("bit 7 alone is 23 and no longer 21", read_record(assemble({LINK_BIT: bytes(8)}))[:2], (23, 12)),
     ]
@@ -1154,40 +1191,41 @@ def accidental_rows():
 
 def accidental_verdict_rows():
     """Request 8 of 02: where verdicts one, two, three and six turn in the accidental situation."""
-    def verdicts(place, *loads, section=ACCIDENTAL_A):
-        return [check(section, Load(*load)).verdicts[place - 1] for load in loads]
+    a, linked = ACCIDENTAL_A, with_links(ACCIDENTAL_A, 101, 200)
 
-    def sheared(n=0, area=1_500, fck=30, situation=ACCIDENTAL):
-        return check(section_of(300, 500, fck, 500, [(450, area)], situation=situation), Load(n, 0, 0)).vrd
+    def of_area(area):
+        sections = [section_of(300, 500, 30, 500, [(450, area)], situation=situation) for situation in FACTORS]
+        return [check(section, NO_LOAD).vrd for section in sections]
 
-    def answer(area, spacing):
-        return check(with_links(ACCIDENTAL_A, area, spacing), NO_LOAD)[-3:-1]
-
-    linked, tie = with_links(ACCIDENTAL_A, 101, 200), check(ACCIDENTAL_TIE, NO_LOAD)
     return [
-        ("accidental A: M to 300,000,000", verdicts(1, (0, 300_000_000, 0), (0, 300_000_001, 0)), [PASS, FAIL]),
-        ("accidental A: M from -7,554,140", verdicts(1, (0, -7_554_140, 0), (0, -7_554_141, 0)), [PASS, FAIL]),
-        ("accidental A: verdict two to u 2,025", verdicts(2, (465_599, 0, 0), (465_600, 0, 0)), [PASS, FAIL]),
-        ("accidental A: V to 108,564", verdicts(3, (0, 0, 108_564), (0, 0, 108_565)), [PASS, FAIL]),
-        ("accidental A: V from -108,564", verdicts(3, (0, 0, -108_564), (0, 0, -108_565)), [PASS, FAIL]),
-        ("accidental A: c to 750,000", [sheared(n) for n in (749_999, 750_000, 750_001)], [209_813, 209_814, 209_814]),
-        ("fck 90: c to 2,250,000, g and not f", [sheared(n, fck=90) for n in (2_250_000, 2_250_001)], [460_320] * 2),
-        ("area 300: 35·q, or 15·K·r/100", [sheared(area=300, situation=one) for one in FACTORS], [55_651, 63_491]),
-        ("area 100: 35·q in both", [sheared(area=100, situation=one) for one in FACTORS], [55_651, 55_651]),
-        ("accidental A, links 101/200", answer(101, 200), (25, 255_656)),
-        ("accidental A, links 500/50", answer(500, 50), (10, 801_900)),
-        ("accidental A, links 200/100", answer(200, 100), (17, 688_500)),
-        ("an accidental tie: the smallest", (tie.cotangent, tie.link_resistance), (19, 270_838)),
+        ("accidental A: M to 300,000,000", verdicts_under(a, 1, (0, 300_000_000, 0), (0, 300_000_001, 0)), [PASS, FAIL]),
+        ("accidental A: M from -7,554,140", verdicts_under(a, 1, (0, -7_554_140, 0), (0, -7_554_141, 0)), [PASS, FAIL]),
+        ("accidental A: verdict two to u 2,025", verdicts_under(a, 2, (465_599, 0, 0), (465_600, 0, 0)), [PASS, FAIL]),
+        ("accidental A: V to 108,564", verdicts_under(a, 3, (0, 0, 108_564), (0, 0, 108_565)), [PASS, FAIL]),
+        ("accidental A: V from -108,564", verdicts_under(a, 3, (0, 0, -108_564), (0, 0, -108_565)), [PASS, FAIL]),
+        ("accidental A: c to 750,000", shear_resistances(a, 749_999, 750_000, 750_001), [209_813, 209_814, 209_814]),
+        ("fck 90: c to 2,250,000, g and not f",
+         shear_resistances(a._replace(fck=90), 2_250_000, 2_250_001), [460_320, 460_320]),
+        ("area 300: 35·q, or 15·K·r/100", of_area(300), [55_651, 63_491]),
+        ("area 100: 35·q in both", of_area(100), [55_651, 55_651]),
+        ("accidental A, links 101/200", link_answer(a, (101, 200)), (25, 255_656)),
+        ("accidental A, links 500/50", link_answer(a, (500, 50)), (10, 801_900)),
+        ("accidental A, links 200/100", link_answer(a, (200, 100)), (17, 688_500)),
+        ("an accidental tie: the smallest", link_answer(ACCIDENTAL_TIE, (204, 161)), (19, 270_838)),
         ("accidental A, links 101/200: V to 255,656",
-         verdicts(6, (0, 0, 255_656), (0, 0, 255_657), section=linked), [PASS, FAIL]),
+         verdicts_under(linked, 6, (0, 0, 255_656), (0, 0, 255_657)), [PASS, FAIL]),
     ]
+
+
+def refusals_of_calls(section, load=NO_LOAD):
+    """The refusals of every call that takes a section."""
+    return {*refusals_of(section, load), find_depth(section, load.n)[0], moment_at_depth(section, 1)[0]}
 
 
 def situation_refusal_rows():
     """Request 8 of 02: '32 situation other than 1 or 2, after 4', in every call that takes a section."""
     def refusals(situation, **change):
-        section = SECTION_A._replace(situation=situation, **change)
-        return {*refusals_of(section, NO_LOAD), find_depth(section, 0)[0], moment_at_depth(section, 1)[0]}
+        return refusals_of_calls(SECTION_A._replace(situation=situation, **change))
 
     return [
         ("situations 1 and 2", [refusals(situation) for situation in (1, 2)], [{0}, {0}]),
@@ -1198,30 +1236,148 @@ def situation_refusal_rows():
     ]
 
 
-def situation_record_rows():
-    """Request 8 of 02: the situation in the record."""
-    def with_field(bit, value):
-        return assemble({**fields_read(EXAMPLE, bits_that_stand(EXAMPLE)), bit: signed_bytes(value)})
+def reduced_strength_rows():
+    """Request 10 of 02: f and g at αcc 80, 85, 90 and 100, 'multiplied by αcc before their one rounding down'."""
+    strengths = {
+        (16, 1): ((853, 853), (906, 906), (960, 960), (1_066, 1_066)),
+        (16, 2): ((1_066, 1_066), (1_133, 1_133), (1_200, 1_200), (1_333, 1_333)),
+        (30, 1): ((1_600, 1_600), (1_700, 1_700), (1_800, 1_800), (2_000, 2_000)),
+        (30, 2): ((2_000, 2_000), (2_125, 2_125), (2_250, 2_250), (2_500, 2_500)),
+        (55, 1): ((2_860, 2_933), (3_038, 3_116), (3_217, 3_300), (3_575, 3_666)),
+        (55, 2): ((3_575, 3_666), (3_798, 3_895), (4_021, 4_125), (4_468, 4_583)),
+        (80, 1): ((3_626, 4_266), (3_853, 4_533), (4_080, 4_800), (4_533, 5_333)),
+        (80, 2): ((4_533, 5_333), (4_816, 5_666), (5_100, 6_000), (5_666, 6_666)),
+        (90, 1): ((3_840, 4_800), (4_080, 5_100), (4_320, 5_400), (4_800, 6_000)),
+        (90, 2): ((4_800, 6_000), (5_100, 6_375), (5_400, 6_750), (6_000, 7_500)),
+    }
+    rows = [(f"fck {fck}, situation {situation}, αcc {alpha_cc}: f and g",
+             materials(fck, 500, situation, alpha_cc)[3:5], expected)
+            for (fck, situation), of_each in strengths.items() for alpha_cc, expected in zip((80, 85, 90, 100), of_each)]
+    twice = [90 * materials(fck, 500, PERSISTENT).f // 100 for fck in (16, 80)]
+    return rows + [
+        ("one rounding down is not two: 960 and 4,080", twice, [959, 4_079]),
+        ("fck 55, αcc 95", materials(55, 500, PERSISTENT, 95), (42, 620, 63, 3_396, 3_483, 43_478)),
+        ("no αcc in T, E, L and s", {materials(90, 600, ACCIDENTAL, alpha_cc)[:3] + materials(
+            90, 600, ACCIDENTAL, alpha_cc)[5:] for alpha_cc in ALPHAS}, {(50, 520, 56, 60_000)}),
+        ("80/1.2 is 100/1.5", [materials(fck, 500, ACCIDENTAL, 80)[3:5] for fck in CLASSES],
+         [materials(fck, 500, PERSISTENT)[3:5] for fck in CLASSES]),
+    ]
 
+
+def reduced_rows():
+    """Request 10 of 02: A under N and M with αcc 85, and with 80."""
+    a, turned = REDUCED_A, turned_over(REDUCED_A)
+
+    def faces(section, m=0):
+        return check(section, Load(0, m, 0))[1:5]
+
+    return [
+        ("αcc 85, N 0: u", find_depth(a, 0), (0, 1_598)),
+        ("αcc 85, internal force at 1,598 and 1,599", [internal_force(a, u) for u in (1_598, 1_599)], [-186, 222]),
+        ("αcc 85: Moment at depth 1,598", moment_at_depth(a, 1_598), (0, 251_755_182)),
+        ("αcc 85, N 0: both faces", faces(a), (1_598, 251_755_182, 428, 5_339_334)),
+        ("αcc 85, M -1: both faces", faces(a, -1), (428, 5_339_334, 1_598, 251_755_182)),
+        ("αcc 85, the least N", [find_depth(a, n) for n in (-651_762, -651_763)], [(0, 1), (11, 0)]),
+        ("αcc 85, the last N", [find_depth(a, n) for n in (2_145_000, 2_145_001)], [(0, 5_000), (12, 0)]),
+        ("αcc 85 from the bottom: last N", [above_range(turned, n) for n in (2_692_170, 2_692_171)], [False, True]),
+        ("αcc 80, N 0: both faces", faces(a._replace(alpha_cc=80)), (1_698, 249_155_986, 431, 4_903_221)),
+        ("αcc 99, N 0: both faces", faces(a._replace(alpha_cc=99)), (1_372, 257_647_244, 420, 6_542_988)),
+        ("accidental, αcc 85, N 0: both faces", faces(BOTH_A), (1_470, 293_342_640, 415, 6_387_061)),
+        ("accidental, αcc 80, N 0: both faces", faces(BOTH_A._replace(alpha_cc=80)),
+         (1_562, 290_594_995, 419, 6_312_569)),
+    ]
+
+
+def reduced_verdict_rows():
+    """Request 10 of 02: where verdicts one, two, three and six turn with αcc 85; c and the strut have g."""
+    a, high = REDUCED_A, REDUCED_A._replace(fck=90)
+    linked, strut = with_links(a, 101, 200), with_links(a, 500, 50)
+    return [
+        ("αcc 85: M to 251,755,182", verdicts_under(a, 1, (0, 251_755_182, 0), (0, 251_755_183, 0)), [PASS, FAIL]),
+        ("αcc 85: M from -5,339,334", verdicts_under(a, 1, (0, -5_339_334, 0), (0, -5_339_335, 0)), [PASS, FAIL]),
+        ("αcc 85: verdict two to u 2,025", verdicts_under(a, 2, (174_437, 0, 0), (174_438, 0, 0)), [PASS, FAIL]),
+        ("αcc 85: V to 86,851 as ever", verdicts_under(a, 3, (0, 0, 86_851), (0, 0, -86_852)), [PASS, FAIL]),
+        ("αcc 85: c to 510,000", shear_resistances(a, 509_999, 510_000, 510_001), [155_700, 155_701, 155_701]),
+        ("αcc 85, N 1,000,000: V to 155,701",
+         verdicts_under(a, 3, (1_000_000, 0, 155_701), (1_000_000, 0, 155_702)), [PASS, FAIL]),
+        ("fck 90, αcc 85: c to 1,530,000, g and not f",
+         shear_resistances(high, 1_529_999, 1_530_000, 1_530_001), [331_805, 331_806, 331_806]),
+        ("αcc 85, links 101/200: the links resist, as ever", link_answer(a, (101, 200)), (25, 222_308)),
+        ("αcc 85, links 500/50: the strut resists", link_answer(a, (500, 50)), (10, 545_292)),
+        ("αcc 85, links 200/100", link_answer(a, (200, 100)), (15, 503_346)),
+        ("αcc 85, accidental, links 200/100", link_answer(BOTH_A, (200, 100)), (16, 612_687)),
+        ("fck 90, αcc 85, links 500/50: g and not f", link_answer(high, (500, 50)), (10, 1_189_728)),
+        ("αcc 85, a tie: the smallest", link_answer(REDUCED_TIE, (305, 283)), (18, 189_774)),
+        ("αcc 85, an accidental tie: the smallest", link_answer(BOTH_TIE, (124, 157)), (23, 204_363)),
+        ("αcc 85, links 101/200: V to 222,308",
+         verdicts_under(linked, 6, (0, 0, 222_308), (0, 0, 222_309)), [PASS, FAIL]),
+        ("αcc 85, links 500/50: V to 545,292",
+         verdicts_under(strut, 6, (0, 0, 545_292), (0, 0, -545_293)), [PASS, FAIL]),
+    ]
+
+
+def alpha_refusal_rows():
+    """Request 10 of 02: '34 αcc outside 80 to 100, after 32', in every call that takes a section."""
+    def refusals(alpha_cc, load=NO_LOAD, **change):
+        return refusals_of_calls(SECTION_A._replace(alpha_cc=alpha_cc, **change), load)
+
+    return [
+        ("αcc 80, 85 and 100", [refusals(alpha_cc) for alpha_cc in (80, 85, 100)], [{0}, {0}, {0}]),
+        ("34: αcc 79 and 101", [refusals(alpha_cc) for alpha_cc in (79, 101)], [{34}, {34}]),
+        ("34: αcc 0, -1 and 2^32 + 85", [refusals(alpha_cc) for alpha_cc in (0, -1, 2**32 + 85)], [{34}, {34}, {34}]),
+        ("32 before 34", refusals(79, situation=3), {32}),
+        ("34 in the accidental situation too", refusals(101, situation=ACCIDENTAL), {34}),
+        ("34 before 5", refusals(101, count=0), {34}),
+        ("34 before 8", refusals(79, Load(500_000_001, 0, 0)), {34}),
+        ("34 before 27", refusals(101, links=links_of(0, 200)), {34}),
+        ("34 before 25", write_record(SECTION_A._replace(alpha_cc=0), NO_LOAD, bytearray())[0], 34),
+    ]
+
+
+def with_signed(record, **numbers):
+    """A record with these signed fields too, by name, in range or not."""
+    added = {field.bit: signed_bytes(numbers[field.name]) for field in FIELDS if field.name in numbers}
+    return assemble({**fields_read(record, bits_that_stand(record)), **added})
+
+
+def optional_record_rows(name, example, section, printed, wrong):
+    """Requests 8 and 10 of 02: the field of this name in the record, and a wrong number of it with its refusal."""
     def written(section):
         return assemble(fields_written(section, EXAMPLE_LOAD))
 
-    present_1 = read_record(with_field(24, 1))
+    [field] = [field for field in FIELDS if field.name == name]
+    value, (number, refusal) = section._asdict()[name], wrong
+    present = read_record(with_signed(EXAMPLE, **{name: field.missing}))
     return [
-        ("an accidental record: its length", len(ACCIDENTAL_EXAMPLE), 68),
-        ("an accidental record: what it means", read_record(ACCIDENTAL_EXAMPLE), (0, 68, ACCIDENTAL_A, EXAMPLE_LOAD)),
-        ("an accidental record: what it prints", list_text(ACCIDENTAL_EXAMPLE), ACCIDENTAL_LIST),
-        ("an accidental record: the writer's bytes", written(ACCIDENTAL_A), ACCIDENTAL_EXAMPLE),
-        ("2 is the field of bit 24", with_field(24, 2), ACCIDENTAL_EXAMPLE),
-        ("a missing value means 1", read_record(EXAMPLE), (0, 60, SECTION_A, EXAMPLE_LOAD)),
-        ("the writer omits 1", written(SECTION_A), EXAMPLE),
-        ("a present 1 is read", present_1, (0, 68, SECTION_A, EXAMPLE_LOAD)),
-        ("a present 1 is not written again", written(present_1.section), EXAMPLE),
-        ("a refused reading has situation 0", read_record(with_field(24, 3)),
-         (32, 68, (0, 0, 0, 0, 0, 0, ((0, 0),) * PLACES, (0, 0, 0)), (0, 0, 0))),
-        ("the field of bit 24, cut", read_record(ACCIDENTAL_EXAMPLE[:-1])[:2], (22, 0)),
-        ("bit 24 alone is 23 and no longer 21", read_record(assemble({24: signed_bytes(2)}))[:2], (23, 12)),
-        ("bit 25 is 21", read_record(with_field(25, 100))[:2], (21, 0)),
+        (f"{name} {value}: the record's length", len(example), 68),
+        (f"{name} {value}: what it means", read_record(example), (0, 68, section, EXAMPLE_LOAD)),
+        (f"{name} {value}: what it prints", list_text(example), printed),
+        (f"{name} {value}: the writer's bytes", written(section), example),
+        (f"{name} {value} is the field of bit {field.bit}", with_signed(EXAMPLE, **{name: value}), example),
+        (f"{name} missing means {field.missing}", read_record(EXAMPLE), (0, 60, SECTION_A, EXAMPLE_LOAD)),
+        (f"{name}: the writer omits {field.missing}", written(SECTION_A), EXAMPLE),
+        (f"{name}: a present {field.missing} is read", present, (0, 68, SECTION_A, EXAMPLE_LOAD)),
+        (f"{name}: a present {field.missing} is not written again", written(present.section), EXAMPLE),
+        (f"{name}: a refused reading has zeros", read_record(with_signed(EXAMPLE, **{name: number})),
+         (refusal, 68, (0, 0, 0, 0, 0, 0, 0, ((0, 0),) * PLACES, (0, 0, 0)), (0, 0, 0))),
+        (f"{name}: its field, cut", read_record(example[:-1])[:2], (22, 0)),
+        (f"bit {field.bit} alone is 23 and no longer 21",
+         read_record(assemble({field.bit: signed_bytes(value)}))[:2], (23, 12)),
+    ]
+
+
+def both_record_rows():
+    """Requests 8 and 10 of 02: αcc 'at bit 25 after the situation'."""
+    return [
+        ("situation 2 and αcc 85: the record's length", len(BOTH_EXAMPLE), 76),
+        ("situation 2 and αcc 85: what it means", read_record(BOTH_EXAMPLE), (0, 76, BOTH_A, EXAMPLE_LOAD)),
+        ("situation 2 and αcc 85: what it prints", list_text(BOTH_EXAMPLE), BOTH_LIST),
+        ("situation 2 and αcc 85: the writer's bytes", assemble(fields_written(BOTH_A, EXAMPLE_LOAD)), BOTH_EXAMPLE),
+        ("a present 1 and 100", read_record(with_signed(EXAMPLE, situation=1, alpha_cc=100)),
+         (0, 76, SECTION_A, EXAMPLE_LOAD)),
+        ("a present 1 and 85", read_record(with_signed(EXAMPLE, situation=1, alpha_cc=85))[2], REDUCED_A),
+        ("2 and a present 100", read_record(with_signed(EXAMPLE, situation=2, alpha_cc=100))[2], ACCIDENTAL_A),
+        ("bits 24 to 26 are 21", read_record(b"\7" + BOTH_EXAMPLE[1:] + bytes(8))[:2], (21, 0)),
     ]
 
 
@@ -1261,13 +1417,13 @@ def sequence_rows():
     links = numbers(link_tests(SECTION_A, NO_LOAD))
     face, top = numbers(face_tests(SECTION_A, NO_LOAD)), numbers(top_tests(SECTION_A, 0))
     return [
-        ("section tests", section, (1, 2, 3, 4, 32, 5, 6, 7)),
+        ("section tests", section, (1, 2, 3, 4, 32, 34, 5, 6, 7)),
         ("load tests", load, (8, 9, 10)),
         ("link tests", links, (27, 28, 29)),
         ("tests of Check", section + load + links + face, SEQUENCES["Check"]),
         ("tests of Find a depth", section + numbers(axial_test(0)) + top, SEQUENCES["Find a depth"]),
-        ("bits of no field", FORBIDDEN_BITS, (25, 26, 27, 28, 29, 30, 31)),
-        ("bytes of the longest record", LONGEST_RECORD, 204),
+        ("bits of no field", FORBIDDEN_BITS, (26, 27, 28, 29, 30, 31)),
+        ("bytes of the longest record", LONGEST_RECORD, 212),
     ]
 
 
@@ -1276,8 +1432,11 @@ def main():
     failed = 0
     rows = (equilibrium_rows() + both_faces_rows() + clause_rows() + link_rows() + link_verdict_rows()
             + link_refusal_rows() + link_record_rows() + strength_rows() + accidental_rows()
-            + accidental_verdict_rows() + situation_refusal_rows() + situation_record_rows()
-            + block_rows() + refusal_rows() + sequence_rows())
+            + accidental_verdict_rows() + situation_refusal_rows()
+            + optional_record_rows("situation", ACCIDENTAL_EXAMPLE, ACCIDENTAL_A, ACCIDENTAL_LIST, (3, 32))
+            + reduced_strength_rows() + reduced_rows() + reduced_verdict_rows() + alpha_refusal_rows()
+            + optional_record_rows("alpha_cc", REDUCED_EXAMPLE, REDUCED_A, REDUCED_LIST, (79, 34))
+            + both_record_rows() + block_rows() + refusal_rows() + sequence_rows())
     for name, computed, expected in rows:
         same = computed == expected
         failed += not same

@@ -5,10 +5,15 @@ import shutil
 import stat
 import subprocess
 
-from running import (ACCIDENTAL_A_BYTES, ACCIDENTAL_A_LINE, ACCIDENTAL_A_TEXT, EXAMPLES, FIRST_LINE, LINKED_A_TEXT, PATIENCE, REFUSED,
-                     SECTION_A_BYTES, SECTION_A_LINE, SECTION_A_TEXT, TOP, CommandTest, run)
+from running import (ACCIDENTAL_A_BYTES, ACCIDENTAL_A_LINE, ACCIDENTAL_A_TEXT, EXAMPLES, FIRST_LINE, LINKED_A_TEXT, PATIENCE,
+                     REDUCED_A_BYTES, REDUCED_A_LINE, REDUCED_A_TEXT, REFUSED, SECTION_A_BYTES, SECTION_A_LINE, SECTION_A_TEXT, TOP,
+                     CommandTest, run)
 
 LIST_A = FIRST_LINE + SECTION_A_LINE
+
+# A of other strengths: record, text, line, and the moment and shear resistance that it shows
+ACCIDENTAL_A = (ACCIDENTAL_A_BYTES, ACCIDENTAL_A_TEXT, ACCIDENTAL_A_LINE, 300_000_000, 108_564)
+REDUCED_A = (REDUCED_A_BYTES, REDUCED_A_TEXT, REDUCED_A_LINE, 251_755_182, 86_851)
 
 # Stands in for the kit: prints as rt does, and leaves a program that does what the test wants.
 RT = """#!/bin/sh
@@ -48,27 +53,34 @@ class Taken(CommandTest):
                 text = f"300 500 30 500 {n} 0 0 links={links} 450/1500"
                 self.assertEqual(run("check-list", "--text", given=text), (0, FIRST_LINE + b"1 " + number + REFUSED, ""))
 
-    def test_the_accidental_situation_as_record_and_as_text(self):
-        for arguments, given in (((), ACCIDENTAL_A_BYTES), (("--text",), ACCIDENTAL_A_TEXT)):
-            self.assertEqual(run("check-list", *arguments, given=given), (0, FIRST_LINE + ACCIDENTAL_A_LINE, ""))
+    def test_the_accidental_situation_and_an_alpha_cc_as_record_and_as_text(self):
+        for record, text, line, _, _ in (ACCIDENTAL_A, REDUCED_A):
+            for arguments, given in (((), record), (("--text",), text)):
+                self.assertEqual(run("check-list", *arguments, given=given), (0, FIRST_LINE + line, ""))
 
-    def test_text_in_the_accidental_situation_reaches_its_resistances(self):
-        for m, v, verdicts in ((300_000_000, 108_564, b"0 0 0 0 0 2"), (300_000_001, 108_565, b"1 0 1 0 0 2")):
-            text = ACCIDENTAL_A_TEXT.replace(" 200000000 80000 ", f" {m} {v} ")
-            line = b"1 0 1250 300000000 108564 450 1500 " + verdicts + b"\n"
-            self.assertEqual(run("check-list", "--text", given=text), (0, FIRST_LINE + line, ""))
+    def test_text_of_these_reaches_its_resistances(self):
+        for _, given, line, m, v in (ACCIDENTAL_A, REDUCED_A):
+            for more, verdicts in ((0, b"0 0 0 0 0 2"), (1, b"1 0 1 0 0 2")):
+                text = given.replace(" 200000000 80000 ", f" {m + more} {v + more} ")
+                answered = FIRST_LINE + line.replace(b"0 0 0 0 0 2", verdicts)
+                self.assertEqual(run("check-list", "--text", given=text), (0, answered, ""))
 
-    def test_situations_that_are_refused_and_a_present_1(self):
-        for last, line in ((b"\0", b"1 32" + REFUSED), (b"\1", SECTION_A_LINE), (b"\3", b"1 32" + REFUSED)):
-            self.assertEqual(run("check-list", given=ACCIDENTAL_A_BYTES[:-1] + last), (0, FIRST_LINE + line, ""))
-        for situation in (0, 3, -1):
-            text = ACCIDENTAL_A_TEXT.replace("accidental", str(situation))
-            self.assertEqual(run("check-list", "--text", given=text), (0, FIRST_LINE + b"1 32" + REFUSED, ""))
+    def test_situations_and_alpha_ccs_that_are_refused_and_a_present_1_and_100(self):
+        for given, last, line in ((ACCIDENTAL_A_BYTES, 0, b"1 32" + REFUSED), (ACCIDENTAL_A_BYTES, 1, SECTION_A_LINE),
+                                  (ACCIDENTAL_A_BYTES, 3, b"1 32" + REFUSED), (REDUCED_A_BYTES, 0, b"1 34" + REFUSED),
+                                  (REDUCED_A_BYTES, 79, b"1 34" + REFUSED), (REDUCED_A_BYTES, 100, SECTION_A_LINE),
+                                  (REDUCED_A_BYTES, 101, b"1 34" + REFUSED)):
+            self.assertEqual(run("check-list", given=given[:-1] + bytes([last])), (0, FIRST_LINE + line, ""))
+        for given, word, others, number in ((ACCIDENTAL_A_TEXT, "accidental", ("0", "3", "-1"), b"32"),
+                                            (REDUCED_A_TEXT, "0.85", ("0", "0.79", "1.01", "-0.85"), b"34")):
+            for other in others:
+                text = given.replace(word, other)
+                self.assertEqual(run("check-list", "--text", given=text), (0, FIRST_LINE + b"1 " + number + REFUSED, ""))
 
-    def test_bit_25_ends_the_list(self):
-        spoiled = b"\2" + ACCIDENTAL_A_BYTES[1:]
-        self.assertEqual(run("check-list", given=ACCIDENTAL_A_BYTES + spoiled + SECTION_A_BYTES),
-                         (0, FIRST_LINE + ACCIDENTAL_A_LINE + b"2 21" + REFUSED, ""))
+    def test_bit_26_ends_the_list(self):
+        spoiled = b"\4" + REDUCED_A_BYTES[1:]
+        self.assertEqual(run("check-list", given=REDUCED_A_BYTES + spoiled + SECTION_A_BYTES),
+                         (0, FIRST_LINE + REDUCED_A_LINE + b"2 21" + REFUSED, ""))
 
     def test_text_of_the_longest_input(self):
         status, text, message = run("check-list", "--text", given="- - - - - - -\n" * 16_384)

@@ -12,7 +12,8 @@ int main(void)
 {
     salwoerk_section a = SALWOERK_SECTION_INIT;
     return (int)a.count + (int)a.links.present + (int)a.links.area + (int)a.layers[SALWOERK_LAYERS - 1].area
-        + (int)a.grade.situation - SALWOERK_PERSISTENT + *salwoerk_verdict_clause(SALWOERK_VERDICTS);
+        + (int)a.grade.situation - SALWOERK_PERSISTENT + (int)a.grade.alpha_cc - SALWOERK_RECOMMENDED_ALPHA_CC
+        + *salwoerk_verdict_clause(SALWOERK_VERDICTS);
 }
 """
 

@@ -1,12 +1,13 @@
 """make-record and show-record: the text form, its units, its columns and its messages."""
 
+import itertools
 import os
 import pty
 import subprocess
 
 import second
-from running import (ACCIDENTAL_A_BYTES, ACCIDENTAL_A_TEXT, EXAMPLES, LINKED_A_BYTES, LINKED_A_TEXT, PATIENCE, SECTION_A_BYTES, SECTION_A_TEXT,
-                     TOP, CommandTest, command, run)
+from running import (ACCIDENTAL_A_BYTES, ACCIDENTAL_A_TEXT, EXAMPLES, LINKED_A_BYTES, LINKED_A_TEXT, PATIENCE, REDUCED_A_BYTES, REDUCED_A_TEXT,
+                     SECTION_A_BYTES, SECTION_A_TEXT, TOP, CommandTest, command, run)
 
 
 class TextTest(CommandTest):
@@ -24,11 +25,15 @@ class TextTest(CommandTest):
         self.assertEqual((status, records), (1, b""))
         self.says(message, *parts)
 
-    def same(self, *texts):
-        """Texts that mean section A."""
+    def mean(self, record, *texts):
+        """Texts that mean the record."""
         for text in texts:
             with self.subTest(text=text):
-                self.assertEqual(self.made(text), SECTION_A_BYTES)
+                self.assertEqual(self.made(text), record)
+
+    def same(self, *texts):
+        """Texts that mean section A."""
+        self.mean(SECTION_A_BYTES, *texts)
 
 
 class Records(TextTest):
@@ -214,9 +219,7 @@ class Links(TextTest):
 
     def linked(self, *texts):
         """Texts that mean section A with links of 101 mm² every 200 mm."""
-        for text in texts:
-            with self.subTest(text=text):
-                self.assertEqual(self.made(text), LINKED_A_BYTES)
+        self.mean(LINKED_A_BYTES, *texts)
 
     def field(self, word):
         """The field of bit 7 that a word makes."""
@@ -227,7 +230,7 @@ class Links(TextTest):
     def test_by_their_name_in_a_line(self):
         self.linked(LINKED_A_TEXT, self.START + "Links=101/200 450/1500", "300;500;30;500;;200kNm;80kN;links=101/200;450/1500",
                     "300,500,30,500,,200000000,80000,links=101/200,450/1500", "300\t500\t30\t500\t0\t200kNm\t80kN\tlinks=101/200\t450/1500",
-                    "300;500;30;500;;200kNm;80kN;links=101/200 450/1500")
+                    "300;500;30;500;;200kNm;80kN;links=101/200 450/1500", self.START + "stirrups=101/200 450/1500")
 
     def test_anywhere_among_the_layers(self):
         self.linked(self.START + "450/1500 links=101/200")
@@ -322,9 +325,7 @@ class Situation(TextTest):
 
     def accidental(self, *texts):
         """Texts that mean section A in the accidental situation."""
-        for text in texts:
-            with self.subTest(text=text):
-                self.assertEqual(self.made(text), ACCIDENTAL_A_BYTES)
+        self.mean(ACCIDENTAL_A_BYTES, *texts)
 
     def test_by_its_name_in_a_line(self):
         self.accidental(ACCIDENTAL_A_TEXT, self.START + "situation=2 450/1500", self.START + "Situation=ACCIDENTAL 450/1500",
@@ -398,6 +399,123 @@ class Situation(TextTest):
     def test_the_rule_is_in_the_help(self):
         rules = run("make-record", "--help")[1].decode()
         for part in ("situation=S", "persistent", "accidental", "Table 2.1N"):
+            self.assertIn(part, rules)
+
+
+class LongTermFactor(TextTest):
+    """αcc: the factor itself by its name in a line, and in a column of its own below titles; hundredths in the record."""
+
+    START = "300 500 30 500 0 200000000 80000 "
+    TITLES = "b;h;fck;fyk;N;M;V;alphacc;layers\n"
+    NAMES = ("alphacc", "AlphaCC", "alpha_cc", "alpha-cc", "αcc", "α_cc", "ΑCC")
+    EXTREMES = {"-0.05": "fffffffffffffffb", "0.00": "0000000000000000", "0.79": "000000000000004f", "1.01": "0000000000000065",
+                "85.00": "0000000000002134", "92233720368547758.07": "7fffffffffffffff", "-92233720368547758.08": "8000000000000000"}
+
+    def reduced(self, *texts):
+        """Texts that mean section A with αcc 0.85."""
+        self.mean(REDUCED_A_BYTES, *texts)
+
+    def noted(self, text, *parts):
+        """The records of a text that is right, with one note about it."""
+        status, records, message = run("make-record", given=text)
+        self.assertEqual((status, message.count("\n")), (0, 1))
+        self.says(message, "note: ", *parts)
+        return records
+
+    def test_by_its_name_in_a_line(self):
+        self.reduced(REDUCED_A_TEXT, *(f"{self.START}{name}=0.85 450/1500" for name in self.NAMES), self.START + "450/1500 alphacc=0.85",
+                     "300;500;30;500;;200kNm;80kN;alphacc=0.85;450/1500", "300,500,30,500,,200000000,80000,450/1500,alphacc=0.85",
+                     "300;500;30;500;;200kNm;80kN;450/1500 alphacc=0.85")
+
+    def test_hundredths_whatever_the_decimals(self):
+        self.reduced(*(f"{self.START}alphacc={word} 450/1500" for word in ("0.85", "+0.85", "00.850", "0.8500000")))
+        self.same(*(f"{self.START}alphacc={word} 450/1500" for word in ("1", "1.0", "1.00", "+1.000")))
+        self.assertEqual(self.made(self.START + "alphacc=0.9 450/1500")[-1], 90)
+        for word in ("0.855", "0.8501", "0.001", "1.005"):
+            self.refused(self.START + f"alphacc={word} 450/1500", "line 1, column 8 (layer)",
+                         f"'{word}' is not whole in hundredths; expected a factor such as 0.85\n")
+
+    def test_beside_situation_links_and_sixteen_layers(self):
+        words = ("situation=2", "alphacc=0.85", "links=101/200", "450/1500")
+        first, *others = (self.made(self.START + " ".join(turned)) for turned in itertools.permutations(words))
+        self.assertEqual((first[:4].hex(), first[-16:].hex()), ("030001ef", "0000000000000002" "0000000000000055"))
+        self.assertEqual((set(others), len(others)), ({first}, 23))
+        self.assertEqual(self.made("300 500 30 500 1kN 1kNm 1kN situation=2 alphacc=0.8" + " 450/100" * 16)[:4].hex(), "03ffff7f")
+
+    def test_what_the_engine_refuses_can_still_be_written(self):
+        for word, field in self.EXTREMES.items():
+            with self.subTest(word=word):
+                record = self.made(self.START + f"alphacc={word} 450/1500")
+                self.assertEqual((record[:4].hex(), record[60:].hex()), ("0200016f", field))
+
+    def test_messages_name_line_column_and_what_was_expected(self):
+        for word in ("", "-", ".85", "0.", "0,85", "85%", "17/20", "8.5e-1", "recommended"):
+            with self.subTest(word=word):
+                self.refused(SECTION_A_TEXT + self.START + f"alphacc={word} 450/1500\n", "standard input, line 2, column 8 (layer)",
+                             f"'{word}' ", "expected a factor such as 0.85")
+        self.refused(self.START + "alphacc=x 450/1500", "'x' is no factor; expected a factor such as 0.85\n")
+        self.refused(self.START + "alphacc=0.85kN 450/1500", "'0.85kN' has no unit", "expected a factor such as 0.85\n")
+        for word in ("92233720368547758.08", "-92233720368547758.09", "92233720368547759"):
+            self.refused(self.START + f"alphacc={word} 450/1500", f"'{word}' does not fit a record", "9223372036854775807 hundredths\n")
+
+    def test_hundredths_in_place_of_the_factor_get_a_note(self):
+        said = "85 is taken as the factor 85; expected a factor such as 0.85\n"
+        records = self.noted((self.START + "alphacc=85 450/1500\n") * 2, "line 1, column 8 (layer): " + said)
+        self.assertEqual((len(records), records[-2:].hex()), (136, "2134"))
+        self.noted(self.TITLES + "300;500;30;500;;;;85;450/1500", "line 2, column 8 (alphacc): " + said)
+        self.noted(self.START + "alphacc=2 450/1500", "2 is taken as the factor 2")
+        for word in ("85.00", "1.5", "1", "0"):
+            self.made(self.START + f"alphacc={word} 450/1500")  # without a note
+
+    def test_without_its_name_it_is_no_layer(self):
+        for word in ("0.85", "alphacc", "alpha cc=0.85"):
+            self.refused(self.START + word + " 450/1500", "column 8 (layer)", f"'{word.split()[0]}' is no layer",
+                         "or by its name situation=accidental or alphacc=0.85 or links=101/200\n")
+        self.refused("300 500 30 500 0 0 alphacc=0.85 450/1500", "column 7 (V)", "'alphacc=0.85' is no number")
+
+    def test_twice_is_once_too_often(self):
+        self.refused(self.START + "alphacc=1 450/1500 αcc=0.85", "line 1, column 10", "'αcc=0.85' gives the alphacc again", "once")
+        self.refused(self.TITLES + "300;500;30;500;;;;0.85;450/1500 alphacc=0.85", "line 2, column 9 (layers)", "again")
+
+    def test_a_column_of_factors(self):
+        for title in (*self.NAMES, "alpha cc", "Alpha CC", "α cc", "long-term factor", "Long term factor", "αcc [-]", "alphacc (-)"):
+            for cell in ("0.85", "alphacc=0.85"):
+                self.reduced(f"b;h;fck;fyk;N;M;V;{title};layers\n300;500;30;500;;200kNm;80kN;{cell};450/1500")
+        self.reduced("Name,alphacc,layers,b,h,fck,fyk,N,M,V\nBeam 1,0.85,450/1500,300,500,30,500,0,200000000,80000\n",
+                     "b;h;fck;fyk;N;M;V;layers\n300;500;30;500;;200kNm;80kN;alphacc=0.85 450/1500",
+                     "b h fck fyk N M V layers\n" + REDUCED_A_TEXT)
+
+    def test_an_empty_cell_or_a_dash_is_1(self):
+        for cell in ("", "-", " ", "1", "1.00"):
+            self.same(self.TITLES + f"300;500;30;500;;200kNm;80kN;{cell};450/1500")
+        self.same("layers;b;h;fck;fyk;N;M;V;alphacc\n450/1500;300;500;30;500;;200kNm;80kN")
+
+    def test_a_wrong_cell_of_the_column(self):
+        self.refused("Name;" + self.TITLES + "Beam 7;300;500;30;500;;;;0,85;450/1500",
+                     "line 2 'Beam 7', column 9 (alphacc)", "'0,85' is no factor", "0.85", "comma")
+
+    def test_titles_that_would_lose_the_factor(self):
+        for title in ("alphacc factor of annex", "αcc value", "alphacc [%]", "alpha", "α", "Alpha [-]", "acc", "a_cc", "\\alpha_{cc}",
+                      "long-term", "Long-term coefficient"):
+            with self.subTest(title=title):
+                self.refused(f"b;h;fck;fyk;N;M;V;layers;{title}\n", "line 1, column 9", f"'{title}' is no title of alphacc",
+                             "expected 'alphacc', with cells such as 0.85 or 1.00")
+        for title in ("αcw", "alpha_ct", "α [°]", "Alphabetical", "Long-term load", "Account"):
+            self.same(f"{title};b;h;fck;fyk;N;M;V;layers\n0.85;300;500;30;500;;200kNm;80kN;450/1500")
+
+    def test_two_columns_and_one_where_blanks_part(self):
+        self.refused("b;h;fck;fyk;N;M;V;alphacc;αcc;layers\n", "line 1, column 9", "2 titles 'alphacc'", "expected one")
+        for title in ("alphacc", "alpha cc", "long-term factor"):  # of two words, the first is a title of its own
+            self.refused(f"b h fck fyk N M V {title} layers\n300 500 30 500 0 0 0 0.85 450/1500", "line 1, column 8", "alphacc")
+        self.refused("b h fck fyk N M V αcc layers\n", "blanks", "as in alphacc=0.85")
+
+    def test_records_in_place_of_text(self):
+        for first in (b"\2", b"\3"):
+            self.refused(first + REDUCED_A_BYTES[1:], "line 1, column 1", "show-record")
+
+    def test_the_rule_is_in_the_help(self):
+        rules = run("make-record", "--help")[1].decode()
+        for part in ("alphacc=F", "αcc", "0.80 to 1.00", "3.1.6(1)"):
             self.assertIn(part, rules)
 
 
@@ -577,6 +695,22 @@ class ShowRecord(TextTest):
         present = ACCIDENTAL_A_BYTES[:-1] + b"\1"
         self.assertEqual((self.lines(present), self.back(present)), ([SECTION_A_TEXT.split()], SECTION_A_BYTES))
 
+    def test_section_a_with_a_long_term_factor(self):
+        self.assertEqual(self.lines(REDUCED_A_BYTES), [REDUCED_A_TEXT.split()])
+
+    def test_any_long_term_factor_and_back(self):
+        for word, field in LongTermFactor.EXTREMES.items():
+            record = REDUCED_A_BYTES[:-8] + bytes.fromhex(field)
+            self.assertEqual((self.lines(record), self.back(record)), ([REDUCED_A_TEXT.replace("0.85", word).split()], record))
+
+    def test_a_present_100_keeps_its_meaning(self):
+        present = REDUCED_A_BYTES[:-1] + b"\x64"
+        self.assertEqual((self.lines(present), self.back(present)), ([SECTION_A_TEXT.split()], SECTION_A_BYTES))
+
+    def test_situation_factor_and_links_in_this_sequence(self):
+        words = "300 500 30 500 0 200000000 80000 situation=accidental alphacc=0.80 links=101/200 450/1500"
+        self.assertEqual(self.lines(self.made(words)), [words.split()])
+
     def test_no_record_no_line(self):
         self.assertEqual(self.lines(b""), [])
 
@@ -584,8 +718,9 @@ class ShowRecord(TextTest):
         several = self.made("", EXAMPLES / "several.txt")
         extremes = self.made("- 9223372036854775807 -1 0 -9223372036854775808 1kNm -1kN 4294967295/0 0/4294967295\n"
                              "- - - - - - -\n- - - - - - - links=0/0\n1 2 3 4 5kN 6kNm 7kN 8/9 links=4294967295/4294967295\n"
-                             "- - - - - - - situation=0\n1 2 3 4 5kN 6kNm 7kN situation=-9223372036854775808 links=99/0 8/9\n")
-        for records in (SECTION_A_BYTES, LINKED_A_BYTES, ACCIDENTAL_A_BYTES, several, extremes):
+                             "- - - - - - - situation=0\n1 2 3 4 5kN 6kNm 7kN situation=-9223372036854775808 links=99/0 8/9\n"
+                             "- - - - - - - alphacc=0\n1 2 3 4 5kN 6kNm 7kN situation=3 alphacc=-92233720368547758.08 links=99/0 8/9\n")
+        for records in (SECTION_A_BYTES, LINKED_A_BYTES, ACCIDENTAL_A_BYTES, REDUCED_A_BYTES, several, extremes):
             self.assertEqual(self.back(records), records)
 
     def test_gaps_and_present_zeros_keep_their_meaning(self):
@@ -603,7 +738,8 @@ class ShowRecord(TextTest):
     def test_broken_records_are_named_after_the_whole_ones(self):
         for broken, fault in ((b"\0\0", "2 bytes are left"), (SECTION_A_BYTES[:59], "calls for 60 bytes; 59 are left"),
                               (bytes.fromhex("00000080"), "calls for 12 bytes; 4 are left"),
-                              (bytes.fromhex("01000000"), "calls for 12 bytes; 4 are left"), (bytes.fromhex("83000000"), "bit 25, 31")):
+                              (bytes.fromhex("01000000"), "calls for 12 bytes; 4 are left"),
+                              (bytes.fromhex("02000000"), "calls for 12 bytes; 4 are left"), (bytes.fromhex("87000000"), "bit 26, 31")):
             with self.subTest(broken=broken.hex()):
                 status, text, message = run("show-record", given=SECTION_A_BYTES + broken)
                 self.assertEqual(status, 1)
@@ -622,17 +758,23 @@ class Examples(TextTest):
         self.assertEqual(self.answers("section-a.txt"), ["1 0 1358 257986051 86851 450 1500 0 0 0 0 0 2"])
 
     def test_several_has_the_refusals_that_its_remarks_say(self):
-        self.assertEqual([line.split()[1] for line in self.answers("several.txt")], ["0"] * 9 + ["3", "29"])
+        self.assertEqual([line.split()[1] for line in self.answers("several.txt")], ["0"] * 10 + ["3", "29"])
 
     def test_several_has_the_verdicts_that_its_remarks_say(self):
         three_and_six = [(line.split()[9], line.split()[12]) for line in self.answers("several.txt")]
         self.assertEqual(three_and_six[1:4], [("1", "2"), ("1", "0"), ("1", "1")])
 
-    def test_several_has_a_beam_that_stands_in_the_accidental_situation_alone(self):
-        word = "situation=accidental"
+    def turned_by(self, word, verdicts, without):
+        """The one line of several.txt that has the word has the verdicts, and without the word the others."""
         line, = (line for line in (EXAMPLES / "several.txt").read_text().splitlines() if word in line and not line.startswith("#"))
-        for text, verdicts in ((line, "0 0 0 0 0 2"), (line.replace(word, ""), "1 0 1 0 0 2")):
-            self.assertEqual(second.list_text(self.made(text)).split()[-6:], verdicts.split())
+        for text, expected in ((line, verdicts), (line.replace(word, ""), without)):
+            self.assertEqual(second.list_text(self.made(text)).split()[-6:], expected.split())
+
+    def test_several_has_a_beam_that_stands_in_the_accidental_situation_alone(self):
+        self.turned_by("situation=accidental", "0 0 0 0 0 2", "1 0 1 0 0 2")
+
+    def test_several_has_a_column_that_stands_by_the_recommended_factor_alone(self):
+        self.turned_by("alphacc=0.85", "1 1 0 0 0 2", "0 1 0 0 0 2")
 
     def test_the_export_of_a_spreadsheet(self):
-        self.assertEqual(self.answers("beams.csv"), self.answers("several.txt")[:8])
+        self.assertEqual(self.answers("beams.csv"), self.answers("several.txt")[:9])

@@ -8,7 +8,7 @@ from records import INPUT_ROOM
 from streams import Complaint
 
 COMMAND = "make-record"
-AWAITED = "sections, one a line: b h fck fyk N M V [situation=S] [links=A/s] d/A ..."
+AWAITED = "sections, one a line: b h fck fyk N M V [situation=S] [alphacc=F] [links=A/s] d/A ..."
 
 
 def arguments():

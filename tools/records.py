@@ -4,7 +4,7 @@ import struct
 from typing import NamedTuple, Optional
 
 from streams import Complaint
-from units import FORCE, LENGTH, MOMENT, SITUATION, STRENGTH, Quantity
+from units import ALPHA_CC, FORCE, LENGTH, MOMENT, SITUATION, STRENGTH, Quantity
 
 I64 = (-2**63, 2**63 - 1)
 U32 = (0, 2**32 - 1)
@@ -30,8 +30,9 @@ COLUMNS = (
     Column("M", 5, MOMENT, 0, 14),
     Column("V", 6, FORCE, 0, 10),
 )
-SITUATION_COLUMN = Column("situation", 24, SITUATION, 1)  # no line needs it, so it has no place in the sequence
-NUMBERS = (*COLUMNS, SITUATION_COLUMN)
+SITUATION_COLUMN = Column("situation", 24, SITUATION, 1)  # no line needs these two, so they have no place in the sequence
+ALPHA_CC_COLUMN = Column("alphacc", 25, ALPHA_CC, 100)
+NUMBERS = (*COLUMNS, SITUATION_COLUMN, ALPHA_CC_COLUMN)
 LINKS_BIT = 7
 LAYER_BITS = range(8, 24)
 FIELD_BITS = {column.bit for column in NUMBERS} | {LINKS_BIT} | set(LAYER_BITS)
@@ -45,11 +46,14 @@ class Section(NamedTuple):
     links: list   # one (area, spacing), or none
     layers: list  # (depth, area) each
 
+    def written(self, columns):
+        """Those of the columns that a record has: not one whose number is what a missing one means."""
+        return [column for column in columns if self.numbers.get(column.name, column.missing) != column.missing]
+
 
 def packed(section):
     """The record, with the lowest layer bits and without a number that is what a missing one means."""
-    fields = {column.bit: struct.pack(">q", section.numbers[column.name]) for column in NUMBERS
-              if section.numbers.get(column.name, column.missing) != column.missing}
+    fields = {column.bit: struct.pack(">q", section.numbers[column.name]) for column in section.written(NUMBERS)}
     fields.update((LINKS_BIT, struct.pack(">II", *links)) for links in section.links)
     fields.update((bit, struct.pack(">II", *layer)) for bit, layer in zip(LAYER_BITS, section.layers))
     bit_map = sum(1 << bit for bit in fields)

@@ -11,6 +11,7 @@ HEADING = """\
 # b h and the depths d in mm, fck fyk in N/mm², N V in N, M in N·mm, areas A in mm²;
 # N positive in compression, M positive where it compresses the top;
 # situation=accidental takes that row of Table 2.1N; without it the situation is persistent;
+# alphacc=0.85 is the long-term factor αcc of the concrete strength (3.1.6(1)); without it αcc is 1.00;
 # links=A/s are vertical links of area A in mm² every s mm.
 #
 """

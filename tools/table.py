@@ -4,14 +4,14 @@ import re
 from typing import NamedTuple, Optional
 
 import units
-from records import COLUMNS, I64, LAYER_BITS, SITUATION_COLUMN, U32, Column, Section, packed
+from records import ALPHA_CC_COLUMN, COLUMNS, I64, LAYER_BITS, SITUATION_COLUMN, U32, Column, Section, packed
 from streams import Complaint, shown
 
 RULES = """\
 The text has a section a line, and everything from a '#' on is a remark:
 
   b h fck fyk N M V d/A d/A ...
-  b h fck fyk N M V situation=S links=A/s d/A d/A ...
+  b h fck fyk N M V situation=S alphacc=F links=A/s d/A d/A ...
 
   b h          width and height of the section               mm, cm, m
   fck fyk      strength of concrete and steel                N/mm2, MPa
@@ -22,13 +22,17 @@ The text has a section a line, and everything from a '#' on is a remark:
   situation=S  design situation of Table 2.1N: persistent    no unit
                or 1, with factors 1.5 and 1.15; accidental
                or 2, with 1.2 and 1.0
+  alphacc=F    long-term factor αcc of the concrete          no unit
+               strength by 3.1.6(1), 0.80 to 1.00; some
+               national annexes have 0.85
   links=A/s    vertical links: the area of all legs of a     mm2, cm2 / mm, cm, m
                link / the spacing along the member
   d/A          a layer: its depth from the top face / its    mm, cm, m / mm2, cm2
                area; 450/1500, 45cm/15cm2
 
-Situation and links may be left out: the situation is persistent then, and there
-are no links. Each stands once, after V or anywhere among the layers.
+Situation, factor and links may be left out: the situation is persistent then,
+αcc is 1.00, and there are no links. Each stands once, after V or anywhere among
+the layers.
 
 Bars may stand for an area: 450/3x16 is a layer of three bars of 16 mm, and
 links=2x8/200 are links of two legs of 8 mm every 200 mm; their area is by
@@ -37,7 +41,9 @@ links=2x8/200 are links of two legs of 8 mm every 200 mm; their area is by
 Numbers. A plain number is whole and in the first unit of its row. With a unit
 directly after it, as in 200kNm, 1.5kN or 45cm, it may have decimals; it is
 converted exactly, and refused where it is not whole in the first unit.
-200_000_000 may stand for 200000000.
+200_000_000 may stand for 200000000. αcc is the factor itself, with decimals or
+without: 0.85, 0.9, 1, and not 85; it is refused where it is not whole in
+hundredths.
 
 Cells. A line with a ';' is parted by ';', else one with a tab by tabs, else one
 with commas and no blank between two words by commas, else by blanks. An empty
@@ -50,11 +56,13 @@ of layers, layer 1, layer 2 ... or d/A; a cell there may hold several layers
 parted by blanks. A title may give the unit of its plain numbers: M [kNm]. Other
 titles are not read; their cells are the name of the line in messages.
 
-Situation and links stand below titles in one column each: situation (design
-situation), each cell persistent, accidental, 1 or 2; and links (stirrups, A/s),
-each cell A/s such as 101/200 or 2x8/200. A cell that is empty or '-' leaves it
-out. Or they stand among the layers by their names, as above, and must where
-blanks part the cells. A title such as 'link area' or 'accidental' is refused.
+Situation, factor and links stand below titles in one column each: situation
+(design situation), each cell persistent, accidental, 1 or 2; alphacc (alpha cc,
+αcc, long-term factor), each cell a factor such as 0.85; and links (stirrups,
+A/s), each cell A/s such as 101/200 or 2x8/200. A cell that is empty or '-'
+leaves it out. Or they stand among the layers by their names, as above or as in
+αcc=0.85, and must where blanks part the cells. A title such as 'link area',
+'accidental' or 'alpha' is refused.
 """
 
 ABSENT = "-"
@@ -66,6 +74,8 @@ LINKS = re.compile(r"(?:(?:shear|vertical) )?(?:links?|stirrups?)|A(?:sw)?/s", r
 ABOUT_LINKS = re.compile(r"(?<![A-Za-z])(?:links?|stirrups?|Asw)(?![A-Za-z])", re.IGNORECASE)
 SITUATION = re.compile(r"(?:design )?situation", re.IGNORECASE)
 ABOUT_SITUATION = re.compile(r"situations?(?![A-Za-z])|(?<![A-Za-z])(?:persistent|accidental)(?![A-Za-z])", re.IGNORECASE)
+ALPHA_CC = re.compile(r"(?:(?:alpha|α)[ _-]?cc|long[ -]term factor)(?: *(?:\[-\]|\(-\)))?", re.IGNORECASE)
+ABOUT_ALPHA_CC = re.compile(r"(?:alpha|α)[^a-z°]*(?:cc|$)|^a[_-]?cc(?![a-z])|long[^a-z]*term[^a-z]*(?:factor|coeff|$)", re.IGNORECASE)
 BY_NAME = {column.name.lower(): column for column in COLUMNS}
 ENOUGH_TITLES = 3  # a line that names as many columns is one of titles; two could be units that stand alone
 
@@ -97,8 +107,10 @@ class Extra(NamedTuple):
 
 EXTRAS = {
     "situation": Extra(Place("situation", SITUATION_COLUMN), SITUATION, ABOUT_SITUATION, units.SITUATION.expected, "accidental"),
+    "alphacc": Extra(Place("alphacc", ALPHA_CC_COLUMN), ALPHA_CC, ABOUT_ALPHA_CC, "such as 0.85 or 1.00", units.ALPHA_CC.example),
     "links": Extra(Place("links", links=True), LINKS, ABOUT_LINKS, "area/spacing such as 101/200 or 2x8/200", "101/200"),
 }
+BY_THEIR_NAMES = " or ".join(f"{name}={extra.example}" for name, extra in EXTRAS.items())
 
 
 class Titles(NamedTuple):
@@ -154,7 +166,7 @@ def column_named(title):
 def place_of(title, left):
     """What a title stands for; one without a title, or '...', goes on with the layers to its left.
 
-    A title that speaks of situation or links and is none of theirs is not taken as a name: its cells would be lost.
+    A title that speaks of situation, factor or links and is none of theirs is not taken as a name: its cells would be lost.
     """
     for name, extra in EXTRAS.items():
         if extra.titles.fullmatch(title):
@@ -199,7 +211,7 @@ def demand_titles(titles):
 
 
 def demand_one_of_each(titles):
-    """Situation and links have at most one title each, and none where a line without them would give its first layer in their place."""
+    """Each of EXTRAS has at most one title, and none where a line without it would give its first layer in its place."""
     for name, extra in EXTRAS.items():
         found = [number for number, place in enumerate(titles.places, 1) if place is extra.place]
         if len(found) > 1:
@@ -228,9 +240,9 @@ UNTITLED = Titles((*(Place(column.name, column) for column in COLUMNS), Place("l
 
 
 def name_of(word):
-    """The name of what a line may have that a word begins with, as links=101/200 does, or none."""
-    name, sign, _ = word.partition("=")
-    return name.lower() if sign and name.lower() in EXTRAS else ""
+    """The name of what a line may have that a word begins with, as links=101/200 does, or none; each of its titles is one."""
+    title, sign, _ = word.partition("=")
+    return next((name for name, extra in EXTRAS.items() if sign and extra.titles.fullmatch(title)), "")
 
 
 class Reader:
@@ -246,8 +258,7 @@ class Reader:
         quantity = place.column.quantity
         number = units.whole(cell, quantity, I64, place.unit)
         if not place.unit and not self.notes and units.is_doubtful(cell, quantity, number):
-            self.notes.append(f"{where}: {cell} is taken as {cell} {quantity.record_unit}; "
-                              f"a number may have its unit, as in {cell}{list(quantity.units)[1]}")
+            self.notes.append(f"{where}: {quantity.doubt(cell)}")
         section.numbers[place.column.name] = number
 
     def take_links(self, section, cell, where):
@@ -258,7 +269,7 @@ class Reader:
         section.links.append((area, spacing))
 
     def take_extra(self, section, word, place, where):
-        """Situation or links, once, with the name before it or without."""
+        """Situation, factor or links, once, with the name before it or without."""
         if section.links if place.links else place.column.name in section.numbers:
             raise Complaint(f"'{shown(word)}' gives the {place.title} again; expected once in a line")
         cell = word.partition("=")[2] if name_of(word) == place.title else word
@@ -268,13 +279,13 @@ class Reader:
             self.take_number(section, cell, place, where)
 
     def take_layers(self, section, cell, where):
-        """Layers, and by their names situation and links."""
+        """Layers, and by their names situation, factor and links."""
         for word in filter(None, cell.split(" ")):
             name = name_of(word)
             if name:
                 self.take_extra(section, word, EXTRAS[name].place, where)
             else:
-                section.layers.append(units.layer_of(word, U32))
+                section.layers.append(units.layer_of(word, U32, BY_THEIR_NAMES))
         if len(section.layers) > len(LAYER_BITS):
             raise Complaint(f"layer {len(section.layers)}; expected at most {len(LAYER_BITS)} in a record")
 
@@ -332,7 +343,7 @@ class Reader:
 
     def read(self, data):
         """All lines of the input."""
-        if data[:1] in (b"\0", b"\1", b"\xff", b"\xfe"):  # of records, and of text in UTF-16
+        if data[:1] in (b"\0", b"\1", b"\2", b"\3", b"\xff", b"\xfe"):  # of records, and of text in UTF-16
             self.complaints.append(f"{self.name}, line 1, column 1: this is no text in UTF-8; expected a section a line "
                                    "(records are shown as text by show-record)")
             return
@@ -368,9 +379,9 @@ def line_of(section):
 
 
 def extras_of(section):
-    """Situation and links by their names; a situation that a missing one means is left out, as in a record."""
-    situation = section.numbers.get(SITUATION_COLUMN.name, SITUATION_COLUMN.missing)
-    words = [] if situation == SITUATION_COLUMN.missing else [f"situation={units.SITUATION.written(situation)}"]
+    """Situation, factor and links by their names; what a missing one means is left out, as in a record."""
+    columns = section.written((SITUATION_COLUMN, ALPHA_CC_COLUMN))
+    words = [f"{column.name}={column.quantity.written(section.numbers[column.name])}" for column in columns]
     return words + [f"links={area}/{spacing}" for area, spacing in section.links]
 
 

@@ -1,6 +1,7 @@
 """Numbers of the text form: a word, with its unit or without, as a whole number of the record's unit, exactly."""
 
 import re
+from decimal import Decimal
 from fractions import Fraction
 from typing import NamedTuple
 
@@ -8,24 +9,34 @@ from streams import Complaint, shown
 
 
 class Quantity(NamedTuple):
-    """What a column holds. A unit counts so many of the record's unit, which is the unit of a plain number."""
+    """What a column holds. A unit counts so many of the record's unit, which is that of a plain number, or of its last decimal."""
 
     record_unit: str
     units: dict
-    doubtful: int = 0     # a plain number nearer to 0 than this was likely meant in another unit
-    kind: str = "number"  # what a message calls it
-    words: dict = {}      # words for its numbers; it has no units then
+    doubtful: range = range(0)  # in the record's unit, of either sign: a whole plain number that was likely meant in another unit
+    kind: str = "number"        # what a message calls it
+    words: dict = {}            # words for its numbers; it has no units then
+    decimals: int = 0           # how many a plain number may have; it has no units then
+    example: str = ""           # of such a number
 
     @property
     def expected(self):
         """What a cell of such a column may be."""
         if self.words:
             return ", ".join(f"{number} or '{word}'" for word, number in self.words.items())
+        if not self.units:
+            return f"a {self.kind} such as {self.example}"
         return f"a whole number of {self.record_unit}, or a number with its unit ({', '.join(self.units)})"
 
     def written(self, number):
         """The number as a text shows it: by its word, if it has one."""
-        return next((word for word, meant in self.words.items() if meant == number), str(number))
+        return next((word for word, meant in self.words.items() if meant == number), f"{Decimal(number).scaleb(-self.decimals):f}")
+
+    def doubt(self, word):
+        """What a note says of a plain number that was likely meant in another unit."""
+        if not self.units:
+            return f"{word} is taken as the {self.kind} {word}; expected {self.expected}"
+        return f"{word} is taken as {word} {self.record_unit}; a number may have its unit, as in {word}{list(self.units)[1]}"
 
     def factor(self, unit):
         """How many of the record's unit a unit counts; 'kN·m' and 'mm²' are kNm and mm2."""
@@ -35,9 +46,10 @@ class Quantity(NamedTuple):
 LENGTH = Quantity("mm", {"mm": 1, "cm": 10, "m": 1_000})
 AREA = Quantity("mm²", {"mm2": 1, "cm2": 100})
 STRENGTH = Quantity("N/mm²", {"N/mm2": 1, "MPa": 1})
-FORCE = Quantity("N", {"N": 1, "kN": 1_000, "MN": 1_000_000}, doubtful=1_000)
-MOMENT = Quantity("N·mm", {"Nmm": 1, "kNm": 1_000_000, "MNm": 1_000_000_000}, doubtful=100_000)
+FORCE = Quantity("N", {"N": 1, "kN": 1_000, "MN": 1_000_000}, doubtful=range(1, 1_000))
+MOMENT = Quantity("N·mm", {"Nmm": 1, "kNm": 1_000_000, "MNm": 1_000_000_000}, doubtful=range(1, 100_000))
 SITUATION = Quantity("", {}, kind="situation", words={"persistent": 1, "accidental": 2})
+ALPHA_CC = Quantity("hundredths", {}, doubtful=range(101, 2**63), kind="factor", decimals=2, example="0.85")
 
 NUMBER = re.compile(r"([+-]?[0-9]+(?:_[0-9]+)*)(\.[0-9]+)? *([A-Za-z].*)?", re.ASCII)
 BARS = re.compile(r"([0-9]{1,5})x([0-9]{1,5})", re.ASCII)
@@ -76,10 +88,10 @@ def whole(word, quantity, bounds, unit=""):
         raise Complaint(f"'{shown(word)}' is no {quantity.kind}; expected {quantity.expected}{'' if quantity.words else hint(word)}")
     digits, decimals, suffix = match.groups()
     named = suffix or unit
-    factor = quantity.factor(named) if named else 1
+    factor = quantity.factor(named) if named else 10**quantity.decimals
     if factor is None:
         raise Complaint(f"'{shown(word)}' has no unit of this column; expected {quantity.expected}")
-    if decimals and not named:
+    if decimals and not named and not quantity.decimals:
         raise Complaint(f"'{shown(word)}' has decimals and no unit; expected {quantity.expected}")
     number = Fraction(digits.replace("_", "") + (decimals or "")) * factor
     if number.denominator != 1:
@@ -91,8 +103,8 @@ def whole(word, quantity, bounds, unit=""):
 
 
 def is_doubtful(word, quantity, number):
-    """A load without a unit that is next to nothing in the record's unit."""
-    return word[-1:].isdigit() and 0 < abs(number) < quantity.doubtful
+    """A load without a unit that is next to nothing in the record's unit, or a factor such as 85."""
+    return word[-1:].isdigit() and "." not in word and abs(number) in quantity.doubtful
 
 
 def area_of_bars(count, diameter):
@@ -128,10 +140,10 @@ def pair_of(word, bounds, what, expected, *readings):
         raise Complaint(f"of the {what} '{shown(word)}', {complaint}") from None
 
 
-def layer_of(word, bounds):
-    """Depth and area of the word d/A."""
-    return pair_of(word, bounds, "layer", "depth/area such as 450/1500, depth/bars such as 450/3x16, or by its name links=101/200 or "
-                   "situation=accidental", length_of, area_of)
+def layer_of(word, bounds, others):
+    """Depth and area of the word d/A; `others` are the words with a name that may stand among layers."""
+    return pair_of(word, bounds, "layer", f"depth/area such as 450/1500, depth/bars such as 450/3x16, or by its name {others}",
+                   length_of, area_of)
 
 
 def link_of(word, bounds):

@@ -25,18 +25,18 @@ use Rattle.links.specs.Links.{linkResistance, strutResistance, strutCotangent, 
 use Rattle.clauses.specs.Linked.{linkedReport}
 use Rattle.verdicts.specs.Tension.{tensionLayers, total, meanDepth}
 use Rattle.clauses.specs.Check.{reportOf, reportAt, checkIn}
-use Rattle.cases.specs.Case.{shearIs, sameListed, holds, checkHolds}
-use Rattle.cases.specs.Cases.{cases, checkRows}
-use Rattle.cases.proofs.Quick.{isDepth, reports, shows, all-sound}
+use Rattle.cases.specs.Case.{sameListed, holds, depthHolds, checkHolds}
+use Rattle.cases.specs.Cases.{cases, depthRows, checkRows}
+use Rattle.cases.proofs.Quick.{isDepth, finds, tries, depths-sound, reports, shows, checks-sound}
 
 -- the seal of the materials, opened for all of them at once
 everywhere : materialsOf ≡ materialsIn
 everywhere = λ i grade. opened grade i
 
-both-hold : T (every holds cases) × T (every shows checkRows)
-unfolding cases checkRows sectionTests accepted depthIn momentIn checkIn readTests readOf
-both-hold = rw everywhere (
-    unfold shearIs sameListed isDepth reports
+all-hold : T (every holds cases) × (T (every tries depthRows) × T (every shows checkRows))
+unfolding cases depthRows checkRows sectionTests accepted depthIn momentIn checkIn readTests readOf
+all-hold = rw everywhere (
+    unfold sameListed isDepth finds reports
     whole integer ratio _+ᶠ_ _-ᶠ_ _*ᶠ_ _/ᶠ_ _÷ᶠ_ _+ʳ_ reciprocal atMost isSame held floor roundedDown greatest firstGreatest
     depthFactor strengthFactor L f g s CRdc crd
     at concreteForce stress layerForce steelForce internalForce concreteMoment layerMoment steelResistance momentResistance
@@ -45,10 +45,13 @@ both-hold = rw everywhere (
     mapWith mapOf fieldsTo fields recordOf bytesOf
     numberAt standing onlyFields completeTo complete layersTo filled sectionOf loadOf refusedReading
     linkResistance strutResistance strutCotangent spacingOk ratioOk linkedReport reportOf reportAt
-    in (tt, tt))
+    in (tt, (tt, tt)))
 
 pub cases-hold : T (every holds cases)
-cases-hold = both-hold .0
+cases-hold = all-hold .0
+
+pub depths-hold : T (every depthHolds depthRows)
+depths-hold = depths-sound depthRows (all-hold .1 .0)
 
 pub checks-hold : T (every checkHolds checkRows)
-checks-hold = all-sound checkRows (both-hold .1)
+checks-hold = checks-sound checkRows (all-hold .1 .1)

@@ -1,11 +1,11 @@
--- A row of Check names the depths of both faces: so each is tried there and at the next tenth, and not at every depth of the range, which
--- would take the computed test some ten thousand trials a row. Assumes nothing.
+-- A row of Find a depth names the depth, and one of Check those of both faces: so each is tried there and at the next tenth, and not at
+-- every depth of the range, which would take the computed test some five or ten thousand trials a row. Assumes nothing.
 use Prim.Native.Nat.{ℕ, _+_, _*_, _≤_}
 use mathlib.Core.Bool.{Bool, true, false, _&&_, cond}
 use mathlib.Core.List.{List, [], _∷_}
 use mathlib.Core.Path.{_≡_, refl, sym, ap, _∙_}
 use native.Mathlib.Omega.{arith}
-use lib.Dec.{T, eqb, leb}
+use lib.Dec.{T, eqb, leb, eqb-refl}
 use lib.IntN.{ℤ}
 use borrow.Author.Tests.{leb-true, eqb-true}
 use Rattle.arith.specs.Chain.{firstFailing}
@@ -21,8 +21,9 @@ use Rattle.section.specs.declared.Accepted.the-variants.{Ready, Refused}
 use Rattle.section.specs.Section.{layersOf, counted, linksOf}
 use Rattle.section.specs.Refusals.{accepted, loadLinkTests}
 use Rattle.section.specs.Turned.{turned}
-use Rattle.equilibrium.specs.Refusals.{carries}
-use Rattle.equilibrium.specs.Depth.{depthUnder}
+use Rattle.equilibrium.specs.Refusals.{carries, findDepthTests}
+use Rattle.equilibrium.specs.declared.Depth.the-variants.{At}
+use Rattle.equilibrium.specs.Depth.{depthUnder, depthIn, findDepth}
 use Rattle.equilibrium.proofs.Accuracy.{never-back}
 use Rattle.clauses.specs.declared.Listed.{Listed}
 use Rattle.clauses.specs.declared.Checked.the-variants.{Done}
@@ -30,7 +31,7 @@ use Rattle.clauses.specs.Compressed.{ofCompressed, ofOther}
 use Rattle.clauses.specs.Refusals.{facesTests}
 use Rattle.clauses.specs.Check.{listed, reportAt, checkFaces, checkOf}
 use Rattle.clauses.proofs.Checking.{load-passed}
-use Rattle.cases.specs.Case.{CheckRow, sameListed, checkHolds}
+use Rattle.cases.specs.Case.{DepthRow, depthHolds, CheckRow, sameListed, checkHolds}
 
 -- ---- u is the depth of a face under N: it carries and the next tenth does not, or it is the end of the range
 
@@ -51,6 +52,25 @@ module _ (x : Design) (ls : List Layer) (N : ℤ) (u : ℕ) where
       let a = both-true (leb u (10 * x .h)) (carries x ls N u && cond (carries x ls N (u + 1)) (eqb u (10 * x .h)) true) e in
       let b = both-true (carries x ls N u) (cond (carries x ls N (u + 1)) (eqb u (10 * x .h)) true) (a .1) in
       by-next (carries x ls N (u + 1)) (leb-true u (10 * x .h) (a .0)) (b .0) refl (b .1)
+
+-- ---- a row of Find a depth that is not refused
+
+module _ (s : Section) (N : ℤ) (u : ℕ) where
+  abbrev failing : ℕ
+  failing = firstFailing (findDepthTests (counted s) N)
+
+  -- of the section, and the first of the tests that fails
+  unfoldable pub finds : Accepted → ℕ → Bool
+  finds (Ready x) k = eqb k 0 && isDepth x (layersOf s) N u
+  finds (Refused j) k = false
+
+  finds-sound : (a : Accepted) → accepted (counted s) ≡ a → finds a failing ≡ true → findDepth s N ≡ At u
+  unfolding finds depthIn
+  finds-sound (Refused j) e h = absurd (holds h)
+  finds-sound (Ready x) e h =
+      let both = both-true (eqb failing 0) (isDepth x (layersOf s) N u) h in
+      let none : failing ≡ 0 = eqb-true failing 0 (both .0) in
+      rw (none, e) (ap At (depth-is x (layersOf s) N u (both .1)))
 
 -- ---- a row of Check that is not refused
 
@@ -92,18 +112,38 @@ module _ (s : Section) (load : Load) (l : Listed) where
 
 -- ---- the test that is computed of a row, and that it says no less than the row
 
+abbrev pub findsRow : DepthRow → Bool
+findsRow row =
+    finds (row .section) (row .n) (row .u) (accepted (counted (row .section))) (firstFailing (findDepthTests (counted (row .section)) (row .n)))
+
+abbrev pub tries : DepthRow → Bool
+tries row = cond (eqb (row .refusal) 0) (findsRow row) (depthHolds row)
+
+tries-sound : (row : DepthRow) (done : Bool) → eqb (row .refusal) 0 ≡ done → cond done (findsRow row) (depthHolds row) ≡ true → depthHolds row ≡ true
+tries-sound row true none h =
+    let is = finds-sound (row .section) (row .n) (row .u) (accepted (counted (row .section))) refl h in
+    rw (is, eqb-true (row .refusal) 0 none) (is-true _ (eqb-refl (row .u)))
+tries-sound row false none h = h
+
 abbrev pub shows : CheckRow → Bool
 shows row =
     cond (eqb (row .lists .refusal) 0) (reports (row .section) (row .load) (row .lists) (accepted (counted (row .section)))) (checkHolds row)
 
-sound : (row : CheckRow) (done : Bool)
+shows-sound : (row : CheckRow) (done : Bool)
     → cond done (reports (row .section) (row .load) (row .lists) (accepted (counted (row .section)))) (checkHolds row) ≡ true → checkHolds row ≡ true
-sound row true h = reports-sound (row .section) (row .load) (row .lists) (accepted (counted (row .section))) refl h
-sound row false h = h
+shows-sound row true h = reports-sound (row .section) (row .load) (row .lists) (accepted (counted (row .section))) refl h
+shows-sound row false h = h
 
-pub all-sound : (rows : List CheckRow) → T (every shows rows) → T (every checkHolds rows)
-all-sound [] h = h
-all-sound (row ∷ rows) h =
-    let both = and-yes (shows row) (every shows rows) h in
-    let here = sound row (eqb (row .lists .refusal) 0) (is-true (shows row) (both .0)) in
-    holds (and-true here (is-true (every checkHolds rows) (all-sound rows (both .1))))
+-- what holds of each row holds of all
+module _ {A : Type 0} (p q : A → Bool) (each : (x : A) → p x ≡ true → q x ≡ true) where
+  all-sound : (xs : List A) → T (every p xs) → T (every q xs)
+  all-sound [] h = h
+  all-sound (x ∷ xs) h =
+      let both = and-yes (p x) (every p xs) h in
+      holds (and-true (each x (is-true (p x) (both .0))) (is-true (every q xs) (all-sound xs (both .1))))
+
+pub depths-sound : (rows : List DepthRow) → T (every tries rows) → T (every depthHolds rows)
+depths-sound = all-sound tries depthHolds (λ row. tries-sound row (eqb (row .refusal) 0) refl)
+
+pub checks-sound : (rows : List CheckRow) → T (every shows rows) → T (every checkHolds rows)
+checks-sound = all-sound shows checkHolds (λ row. shows-sound row (eqb (row .lists .refusal) 0))

@@ -22,6 +22,7 @@ use Rattle.section.specs.Section.{layersOf, counted, linksOf}
 use Rattle.section.specs.Refusals as sections
 use Rattle.equilibrium.specs.Force.{at, internalForce, steelResistance}
 use Rattle.section.specs.Turned.{turned}
+use Rattle.equilibrium.specs.declared.Depth.{Depth}
 use Rattle.equilibrium.specs.Depth as depth
 use Rattle.equilibrium.specs.Moment as moment
 use Rattle.shear.specs.SizeFactor.{K}
@@ -50,22 +51,20 @@ pub data Case : Type 0 where
   force : Section → ℕ → ℤ → Case
   -- the same for the section turned over
   turnedForce : Section → ℕ → ℤ → Case
-  -- Find a depth: a section and N; then the refusal and u
-  found : Section → ℤ → ℕ → ℕ → Case
   -- Moment at a depth: a section and u; then the refusal and the moment
   resists : Section → ℕ → ℕ → ℤ → Case
   -- a section turned over and a depth u; then what its layers alone resist
   turnedSteel : Section → ℕ → ℤ → Case
   -- dm; then K
   sizeFactor : ℕ → ℕ → Case
-  -- a section and N; then K, r and q of the tension layers at the depth that is found
-  shearNumbers : Section → ℤ → ℕ → ℕ → ℕ → Case
+  -- a section and a depth u; then K, r and q of the tension layers there
+  shearNumbers : Section → ℕ → ℕ → ℕ → ℕ → Case
   -- a section with links and a load; then the refusal of the load's tests and the links', 0 for none
   linkTested : Section → Load → ℕ → Case
   -- a section and a load; then the bytes of their record
   written : Section → Load → List ℕ → Case
-  -- bytes; then the refusal, the length and the situation that are read
-  read : List ℕ → ℕ → ℕ → ℤ → Case
+  -- bytes; then the refusal, the length, the situation and αcc that are read
+  read : List ℕ → ℕ → ℕ → ℤ → ℤ → Case
   -- what 6.2.3 asks of a section and a cotangent in tenths; then the resistance of the links and that of the strut
   struts : Truss → ℕ → ℕ → ℕ → Case
 
@@ -98,8 +97,8 @@ abbrev turnedGives : List Layer → Accepted → ℕ → ℤ → Bool
 turnedGives ls (section.Ready x) u z = sameℤ (steelResistance x (turned (x .h) ls) u) z
 turnedGives ls (section.Refused k) u z = false
 
-abbrev readsAs : Reading → ℕ → ℕ → ℤ → Bool
-readsAs r k n z = eqb (r .refusal) k && eqb (r .length) n && sameℤ (r .section .grade .situation) z
+abbrev readsAs : Reading → ℕ → ℕ → ℤ → ℤ → Bool
+readsAs r k n z a = eqb (r .refusal) k && eqb (r .length) n && sameℤ (r .section .grade .situation) z && sameℤ (r .section .grade .alphacc) a
 
 abbrev sameNumbers : List ℕ → List ℕ → Bool
 sameNumbers [] [] = true
@@ -107,12 +106,12 @@ sameNumbers (x ∷ xs) (y ∷ ys) = eqb x y && sameNumbers xs ys
 sameNumbers [] (y ∷ ys) = false
 sameNumbers (x ∷ xs) [] = false
 
--- (The two that follow stay shut until the seal is opened, so that the depth is computed once and not once for each number compared.)
-unfoldable pub shearIs : List Layer → Accepted → ℕ → ℕ → ℕ → ℕ → Bool
+abbrev shearIs : List Layer → Accepted → ℕ → ℕ → ℕ → ℕ → Bool
 shearIs ls (section.Ready x) u k y z =
     eqb (K (dm u ls)) k && eqb (r (x .b) (x .m .fck) (As u ls) (dm u ls)) y && eqb (q (x .m .fck) (K (dm u ls))) z
 shearIs ls (section.Refused j) u k y z = false
 
+-- (It stays shut until the seal is opened, so that the answer is computed once and not once for each number compared.)
 unfoldable pub sameListed : Listed → Listed → Bool
 sameListed a b =
     eqb (a .refusal) (b .refusal) && eqb (a .u) (b .u) && sameℤ (a .mrd) (b .mrd) && eqb (a .other .u) (b .other .u) && sameℤ (a .other .mrd) (b .other .mrd)
@@ -125,15 +124,27 @@ holds (noMaterial grade k) = isRefused (materialsOf grade) k
 holds (tests s k) = eqb (sections.refusalNumber (sections.accepted (counted s))) k
 holds (force s u z) = forceIs (layersOf s) (sections.accepted (counted s)) u z
 holds (turnedForce s u z) = turnedForceIs (layersOf s) (sections.accepted (counted s)) u z
-holds (found s N k u) = eqb (depth.refusalNumber (depth.findDepth s N)) k && eqb (depth.depthFound (depth.findDepth s N)) u
 holds (resists s u k m) = eqb (moment.refusalNumber (moment.momentAt s u)) k && sameℤ (moment.momentFound (moment.momentAt s u)) m
 holds (turnedSteel s u z) = turnedGives (layersOf s) (sections.accepted (counted s)) u z
 holds (sizeFactor d k) = eqb (K d) k
 holds (linkTested s l k) = eqb (firstFailing (sections.loadLinkTests (linksOf s) l)) k
 holds (written s l bytes) = sameNumbers (recordOf (counted s) (linksOf s) l) bytes
-holds (read xs k n z) = readsAs (readOf xs) k n z
+holds (read xs k n z a) = readsAs (readOf xs) k n z a
 holds (struts x c k z) = eqb (linkResistance x c) k && eqb (strutResistance x c) z
-holds (shearNumbers s N k y z) = shearIs (layersOf s) (sections.accepted (counted s)) (depth.depthFound (depth.findDepth s N)) k y z
+holds (shearNumbers s u k y z) = shearIs (layersOf s) (sections.accepted (counted s)) u k y z
+
+-- a row of Find a depth: a section and N; then the refusal and u
+pub record DepthRow : Type 0 where
+  pub section : Section
+  pub n : ℤ
+  pub refusal : ℕ
+  pub u : ℕ
+
+abbrev pub isFound : Depth → ℕ → ℕ → Bool
+isFound d k u = eqb (depth.refusalNumber d) k && eqb (depth.depthFound d) u
+
+abbrev pub depthHolds : DepthRow → Bool
+depthHolds row = isFound (depth.findDepth (row .section) (row .n)) (row .refusal) (row .u)
 
 -- a row of Check: a section and a load; then what is listed
 pub record CheckRow : Type 0 where

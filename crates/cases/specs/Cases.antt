@@ -1,10 +1,10 @@
--- Worked cases; that they hold, one computed test over the definitions, is `cases-hold` and `checks-hold` of the proofs. Every case of
--- document 01 that is marked (P) has its rows here, in 01's order, those of Check in a list of their own. Beside them stand the example of
--- 01's list, the refusals 11 and 12 also as Check gives them, every class of the table with the letters that follow from it, and both
--- ends of the steel's range with what lies beyond; at the end, the cases of 02's requests 1, 3 and 8, with numbers of the paper or of the
--- second implementation. Assumes nothing.
+-- Worked cases; that they hold, one computed test over the definitions, is `cases-hold`, `depths-hold` and `checks-hold` of the proofs.
+-- Every case of document 01 that is marked (P) has its rows here, in 01's order, those of Find a depth and of Check in lists of their own.
+-- Beside them stand the example of 01's list, the refusals 11 and 12 also as Check gives them, every class of the table with the letters
+-- that follow from it, and both ends of the steel's range with what lies beyond; at the end, the cases of 02's requests 1, 3, 8 and 10,
+-- with numbers of the paper or of the second implementation. Assumes nothing.
 use Prim.Native.Nat.{ℕ}
-use mathlib.Core.List.{List, [], _∷_}
+use mathlib.Core.List.{List, [], _∷_, _++_}
 use lib.IntN.{ℤ, pos, negℤ}
 use lib.ListN.{replicate}
 use Rattle.materials.specs.declared.Grade.{Grade}
@@ -15,28 +15,36 @@ use Rattle.links.specs.declared.Truss.{Truss}
 use Rattle.clauses.specs.declared.Face.{Face}
 use Rattle.clauses.specs.declared.Listed.{Listed}
 use Rattle.clauses.specs.Check.{refusedListed}
-use Rattle.cases.specs.Case.{Case, Case.material, Case.noMaterial, Case.tests, Case.force, Case.turnedForce, Case.found, Case.resists, Case.turnedSteel}
-use Rattle.cases.specs.Case.{Case.sizeFactor, Case.shearNumbers, Case.linkTested, Case.written, Case.read, Case.struts, CheckRow, withLinks}
+use Rattle.cases.specs.Case.{Case, Case.material, Case.noMaterial, Case.tests, Case.force, Case.turnedForce, Case.resists, Case.turnedSteel}
+use Rattle.cases.specs.Case.{Case.sizeFactor, Case.shearNumbers, Case.linkTested, Case.written, Case.read, Case.struts, DepthRow, CheckRow, withLinks}
 
--- fck, fyk and the situation
-abbrev gradeIn : ℤ → ℕ → ℕ → Grade
-gradeIn situation fck fyk = record { fck = pos fck; fyk = pos fyk; situation = situation }
+-- the situation, αcc, fck and fyk
+abbrev gradeWith : ℤ → ℤ → ℕ → ℕ → Grade
+gradeWith situation alphacc fck fyk = record { fck = pos fck; fyk = pos fyk; situation = situation; alphacc = alphacc }
 
--- persistent
+-- persistent, with αcc 1.00
 abbrev grade : ℕ → ℕ → Grade
-grade fck fyk = gradeIn (pos 1) fck fyk
+grade fck fyk = gradeWith (pos 1) (pos 100) fck fyk
 
--- a row with the situation, crd, fck and fyk; then T, E, L, f, g and s
-abbrev lettersIn : ℕ → ℕ → ℕ → ℕ → ℕ → ℕ → ℕ → ℕ → ℕ → ℕ → Case
-lettersIn situation crd fck fyk t e l f g s =
-    material (gradeIn (pos situation) fck fyk) record { fck = fck; fyk = fyk; t = t; e = e; l = l; f = f; g = g; s = s; crd = crd }
+-- a row with the situation, crd, αcc, fck and fyk; then T, E, L, f, g and s
+abbrev lettersIn : ℕ → ℕ → ℕ → ℕ → ℕ → ℕ → ℕ → ℕ → ℕ → ℕ → ℕ → Case
+lettersIn situation crd alphacc fck fyk t e l f g s =
+    material (gradeWith (pos situation) (pos alphacc) fck fyk)
+    record { fck = fck; fyk = fyk; t = t; e = e; l = l; f = f; g = g; s = s; crd = crd }
 
 -- persistent, with 100·CRd,c 12, and accidental, with 15
+abbrev lettersWith : ℕ → ℕ → ℕ → ℕ → ℕ → ℕ → ℕ → ℕ → ℕ → Case
+lettersWith alphacc fck fyk t e l f g s = lettersIn 1 12 alphacc fck fyk t e l f g s
+
+abbrev accidentalLettersWith : ℕ → ℕ → ℕ → ℕ → ℕ → ℕ → ℕ → ℕ → ℕ → Case
+accidentalLettersWith alphacc fck fyk t e l f g s = lettersIn 2 15 alphacc fck fyk t e l f g s
+
+-- both with αcc 1.00
 abbrev letters : ℕ → ℕ → ℕ → ℕ → ℕ → ℕ → ℕ → ℕ → Case
-letters fck fyk t e l f g s = lettersIn 1 12 fck fyk t e l f g s
+letters fck fyk t e l f g s = lettersWith 100 fck fyk t e l f g s
 
 abbrev accidentalLetters : ℕ → ℕ → ℕ → ℕ → ℕ → ℕ → ℕ → ℕ → Case
-accidentalLetters fck fyk t e l f g s = lettersIn 2 15 fck fyk t e l f g s
+accidentalLetters fck fyk t e l f g s = accidentalLettersWith 100 fck fyk t e l f g s
 
 -- a section with one layer of 1,500 mm², or as many of its places as are counted
 abbrev oneIn : Grade → ℕ → ℕ → ℕ → ℕ → Section
@@ -58,13 +66,20 @@ one b h fck d = oneIn (grade fck 500) 1 b h d
 abbrev A : Section
 A = one 300 500 30 450
 
--- A in a situation, with fyk and a count
-abbrev AIn : ℤ → ℕ → ℕ → Section
-AIn situation fyk count = oneIn (gradeIn situation 30 fyk) count 300 500 450
+-- A in a situation, with αcc, fyk and a count
+abbrev AWith : ℤ → ℤ → ℕ → ℕ → Section
+AWith situation alphacc fyk count = oneIn (gradeWith situation alphacc 30 fyk) count 300 500 450
 
 -- A in the accidental situation
 abbrev accidentalA : Section
-accidentalA = AIn (pos 2) 500 1
+accidentalA = AWith (pos 2) (pos 100) 500 1
+
+-- A with αcc 0.85, and in the accidental situation
+abbrev reducedA : Section
+reducedA = AWith (pos 1) (pos 85) 500 1
+
+abbrev accidentalReducedA : Section
+accidentalReducedA = AWith (pos 2) (pos 85) 500 1
 
 abbrev load : ℤ → ℤ → ℤ → Load
 load n m v = record { n = n; m = m; v = v }
@@ -114,10 +129,19 @@ eight k = 0 ∷ 0 ∷ 0 ∷ 0 ∷ 0 ∷ 0 ∷ 0 ∷ k ∷ []
 abbrev line : Face → Face → ℕ → ℕ → ℕ → ℕ → ℕ → ℕ → ℕ → ℕ → Listed
 line f o vrd dm area v1 v2 v3 v4 v5 = linkedLine f o vrd dm area 0 0 (v1 ∷ v2 ∷ v3 ∷ v4 ∷ v5 ∷ 2 ∷ [])
 
--- A with links under M 200,000,000: the cotangent, the resistance and verdicts three and six
+-- A with links under M 200,000,000: both faces, the cotangent, the resistance and verdicts three and six
+abbrev strutLineAt : Face → Face → ℕ → ℕ → ℕ → ℕ → Listed
+strutLineAt f o cotangent resistance v3 v6 = linkedLine f o 86851 450 1500 cotangent resistance (0 ∷ 0 ∷ v3 ∷ 0 ∷ 0 ∷ v6 ∷ [])
+
+-- the faces as A has them, and with αcc 0.85
 abbrev strutLine : ℕ → ℕ → ℕ → ℕ → Listed
-strutLine cotangent resistance v3 v6 =
-    linkedLine (face 1358 (pos 257986051)) (face 419 (pos 6312569)) 86851 450 1500 cotangent resistance (0 ∷ 0 ∷ v3 ∷ 0 ∷ 0 ∷ v6 ∷ [])
+strutLine = strutLineAt (face 1358 (pos 257986051)) (face 419 (pos 6312569))
+
+abbrev reducedStrutLine : ℕ → ℕ → ℕ → ℕ → Listed
+reducedStrutLine = strutLineAt (face 1598 (pos 251755182)) (face 428 (pos 5339334))
+
+abbrev finds : Section → ℤ → ℕ → ℕ → DepthRow
+finds s n refusal u = record { section = s; n = n; refusal = refusal; u = u }
 
 abbrev checks : Section → Load → Listed → CheckRow
 checks s l lists = record { section = s; load = l; lists = lists }
@@ -141,21 +165,15 @@ hanger v1 = line (face 1 (pos 130553980)) (face 1 (negℤ (pos 130314020))) 0 45
 unfoldable pub cases : List Case
 cases =
     -- (P) N 0 from the top
-    found A (pos 0) 0 1358
-    ∷ force A 1358 (negℤ (pos 330))
+    force A 1358 (negℤ (pos 330))
     ∷ force A 1359 (pos 150)
     ∷ resists A 1358 0 (pos 257986051)
     -- (P) A with M −1: turned over, and the layer alone
     ∷ turnedSteel A 419 (negℤ (pos 40596659))
-    -- (P) the least N, and below it
-    ∷ found A (negℤ (pos 651690)) 0 1
-    ∷ found A (negℤ (pos 651691)) 11 0
-    -- (P) the greatest N, where verdicts two to four are 2, and above it
-    ∷ found A (pos 2505000) 0 5000
+    -- (P) the greatest N
     ∷ resists A 5000 0 (pos 99000000)
-    ∷ found A (pos 2505001) 12 0
     -- (P) A, N 0: K, r and q
-    ∷ shearNumbers A (pos 0) 1666 3218 11778
+    ∷ shearNumbers A 1358 1666 3218 11778
     -- (P) K
     ∷ sizeFactor 200 2000
     ∷ sizeFactor 201 1997
@@ -229,7 +247,6 @@ cases =
     -- request 3: absent links are not asked, whatever their numbers
     ∷ linkTested (withLinks (record { present = 0; area = 0; spacing = 7 }) A) (load (pos 1) (pos 0) (pos 0)) 0
     -- request 8: A in the accidental situation, N 0 from the top
-    ∷ found accidentalA (pos 0) 0 1250
     ∷ force accidentalA 1250 (pos 0)
     ∷ resists accidentalA 1250 0 (pos 300000000)
     -- request 8: the letters
@@ -240,20 +257,76 @@ cases =
     ∷ accidentalLetters 90 500 50 520 56 6000 7500 50000
     ∷ accidentalLetters 90 600 50 520 56 6000 7500 60000
     -- request 8: 32 beside both ends of its range; 4 before 32, 32 before 5
-    ∷ noMaterial (gradeIn (pos 0) 30 500) 32
-    ∷ noMaterial (gradeIn (pos 3) 30 500) 32
-    ∷ noMaterial (gradeIn (negℤ (pos 1)) 30 500) 32
-    ∷ tests (AIn (pos 0) 399 1) 4
-    ∷ tests (AIn (pos 3) 500 0) 32
-    ∷ tests (AIn (pos 2) 500 0) 5
+    ∷ noMaterial (gradeWith (pos 0) (pos 100) 30 500) 32
+    ∷ noMaterial (gradeWith (pos 3) (pos 100) 30 500) 32
+    ∷ noMaterial (gradeWith (negℤ (pos 1)) (pos 100) 30 500) 32
+    ∷ tests (AWith (pos 0) (pos 100) 399 1) 4
+    ∷ tests (AWith (pos 3) (pos 100) 500 0) 32
+    ∷ tests (AWith (pos 2) (pos 100) 500 0) 5
     -- request 8: the situation stands after the layer (that a 1 is not written shows the example's record above)
     ∷ written accidentalA (load (pos 0) (pos 200000000) (pos 80000)) (recordA 1 (eight 2))
-    -- request 8: a missing value means 1, a present 1 is read too; 32 and situation 0; bit 25
-    ∷ read (recordA 0 []) 0 60 (pos 1)
-    ∷ read (recordA 1 (eight 1)) 0 68 (pos 1)
-    ∷ read (recordA 1 (eight 2)) 0 68 (pos 2)
-    ∷ read (recordA 1 (eight 3)) 32 68 (pos 0)
-    ∷ read (recordA 2 (eight 2)) 21 0 (pos 0)
+    -- request 8: a missing value means 1, a present 1 is read too; 32 and zeros
+    ∷ read (recordA 0 []) 0 60 (pos 1) (pos 100)
+    ∷ read (recordA 1 (eight 1)) 0 68 (pos 1) (pos 100)
+    ∷ read (recordA 1 (eight 2)) 0 68 (pos 2) (pos 100)
+    ∷ read (recordA 1 (eight 3)) 32 68 (pos 0) (pos 0)
+    -- request 10: A with αcc 0.85, N 0 from the top
+    ∷ force reducedA 1598 (negℤ (pos 186))
+    ∷ force reducedA 1599 (pos 222)
+    ∷ resists reducedA 1598 0 (pos 251755182)
+    -- request 10: the letters, after αcc; rounded twice f would be 959 with fck 16 and 4,079 with fck 80
+    -- αcc fck fyk   T   E  L    f    g     s
+    ∷ lettersWith 85 30 500 29 700 64 1700 1700 43478
+    ∷ lettersWith 90 16 500 19 700 64 960 960 43478
+    ∷ lettersWith 90 80 500 48 520 58 4080 4800 43478
+    ∷ lettersWith 95 55 500 42 620 63 3396 3483 43478
+    ∷ lettersWith 85 90 500 50 520 56 4080 5100 43478
+    ∷ lettersWith 80 12 400 16 700 64 640 640 34782
+    ∷ lettersWith 80 90 600 50 520 56 3840 4800 52173
+    ∷ accidentalLettersWith 85 30 500 29 700 64 2125 2125 50000
+    ∷ accidentalLettersWith 80 90 600 50 520 56 4800 6000 60000
+    -- request 10: 34 beside both ends of its range; 32 before 34, 34 before 5
+    ∷ noMaterial (gradeWith (pos 1) (pos 79) 30 500) 34
+    ∷ noMaterial (gradeWith (pos 1) (pos 101) 30 500) 34
+    ∷ noMaterial (gradeWith (pos 2) (pos 0) 30 500) 34
+    ∷ noMaterial (gradeWith (pos 2) (negℤ (pos 85)) 30 500) 34
+    ∷ tests (AWith (pos 1) (pos 80) 500 1) 0
+    ∷ tests (AWith (pos 3) (pos 79) 500 1) 32
+    ∷ tests (AWith (pos 1) (pos 101) 500 0) 34
+    ∷ tests (AWith (pos 1) (pos 85) 500 0) 5
+    -- request 10: αcc stands last, after the layer and the situation (that a 100 is not written shows the example's record above)
+    ∷ written reducedA (load (pos 0) (pos 200000000) (pos 80000)) (recordA 2 (eight 85))
+    ∷ written accidentalReducedA (load (pos 0) (pos 200000000) (pos 80000)) (recordA 3 (eight 2 ++ eight 85))
+    -- request 10: missing means 100 (above), a present 100 is read too; 34 and zeros; bit 26
+    ∷ read (recordA 2 (eight 100)) 0 68 (pos 1) (pos 100)
+    ∷ read (recordA 2 (eight 85)) 0 68 (pos 1) (pos 85)
+    ∷ read (recordA 3 (eight 2 ++ eight 85)) 0 76 (pos 2) (pos 85)
+    ∷ read (recordA 2 (eight 79)) 34 68 (pos 0) (pos 0)
+    ∷ read (recordA 4 (eight 85)) 21 0 (pos 0) (pos 0)
+    ∷ []
+
+-- the rows of Find a depth
+unfoldable pub depthRows : List DepthRow
+depthRows =
+    -- (P) N 0 from the top
+    finds A (pos 0) 0 1358
+    -- (P) the least N, and below it
+    ∷ finds A (negℤ (pos 651690)) 0 1
+    ∷ finds A (negℤ (pos 651691)) 11 0
+    -- (P) the greatest N, and above it
+    ∷ finds A (pos 2505000) 0 5000
+    ∷ finds A (pos 2505001) 12 0
+    -- request 8: A in the accidental situation
+    ∷ finds accidentalA (pos 0) 0 1250
+    -- request 10: A with αcc 0.85, the ends of its range too
+    ∷ finds reducedA (pos 0) 0 1598
+    ∷ finds reducedA (negℤ (pos 651762)) 0 1
+    ∷ finds reducedA (negℤ (pos 651763)) 11 0
+    ∷ finds reducedA (pos 2145000) 0 5000
+    ∷ finds reducedA (pos 2145001) 12 0
+    -- request 10: 32 before 34, 34 before 5 and before 8
+    ∷ finds (AWith (pos 3) (pos 79) 500 0) (pos 500000001) 32 0
+    ∷ finds (AWith (pos 1) (pos 79) 500 0) (pos 500000001) 34 0
     ∷ []
 
 -- the rows of Check
@@ -317,5 +390,22 @@ checkRows =
     ∷ checks accidentalA (load (pos 0) (pos 200000000) (pos 80000)) (line (face 1250 (pos 300000000)) (face 405 (pos 7554140)) 108564 450 1500 0 0 0 0 0)
     ∷ checks accidentalA (load (pos 0) (negℤ (pos 1)) (pos 0)) (line (face 405 (pos 7554140)) (face 1250 (pos 300000000)) 17613 50 1500 0 1 0 0 0)
     -- request 8: 32 before 5 and before 8
-    ∷ checks (AIn (pos 3) 500 0) (load (pos 500000001) (pos 0) (pos 0)) (refusedListed 32)
+    ∷ checks (AWith (pos 3) (pos 100) 500 0) (load (pos 500000001) (pos 0) (pos 0)) (refusedListed 32)
+    -- request 10: the example of the list with αcc 0.85, M at the resistance and beyond, and the other face compressed
+    ∷ checks reducedA (load (pos 0) (pos 200000000) (pos 80000)) (line (face 1598 (pos 251755182)) (face 428 (pos 5339334)) 86851 450 1500 0 0 0 0 0)
+    ∷ checks reducedA (load (pos 0) (pos 251755182) (pos 0)) (line (face 1598 (pos 251755182)) (face 428 (pos 5339334)) 86851 450 1500 0 0 0 0 0)
+    ∷ checks reducedA (load (pos 0) (pos 251755183) (pos 0)) (line (face 1598 (pos 251755182)) (face 428 (pos 5339334)) 86851 450 1500 1 0 0 0 0)
+    ∷ checks reducedA (load (pos 0) (negℤ (pos 1)) (pos 0)) (line (face 428 (pos 5339334)) (face 1598 (pos 251755182)) 14090 50 1500 0 1 0 0 0)
+    -- request 10: the cap on N's share, which has g, and V at the resistance and one newton beyond
+    ∷ checks reducedA (load (pos 1000000) (pos 0) (pos 155701)) (line (face 3342 (pos 231371318)) (face 1074 (pos 202957907)) 155701 450 1500 0 1 0 0 0)
+    ∷ checks reducedA (load (pos 1000000) (pos 0) (pos 155702)) (line (face 3342 (pos 231371318)) (face 1074 (pos 202957907)) 155701 450 1500 0 1 1 0 0)
+    -- request 10: the strut, which has g, where αcc 1.00 gives 641,520; and links that govern
+    ∷ checks (withLinks (linksWith 500 50) reducedA) (load (pos 0) (pos 200000000) (pos 545292)) (reducedStrutLine 10 545292 1 0)
+    ∷ checks (withLinks (linksWith 500 50) reducedA) (load (pos 0) (pos 200000000) (pos 545293)) (reducedStrutLine 10 545292 1 1)
+    ∷ checks (withLinks (linksWith 101 200) reducedA) (load (pos 0) (pos 200000000) (pos 80000)) (reducedStrutLine 25 222308 0 0)
+    -- request 10: in the accidental situation
+    ∷ checks accidentalReducedA (load (pos 0) (pos 200000000) (pos 80000))
+    (line (face 1470 (pos 293342640)) (face 415 (pos 6387061)) 108564 450 1500 0 0 0 0 0)
+    -- request 10: 34 before 5 and before 8
+    ∷ checks (AWith (pos 1) (pos 79) 500 0) (load (pos 500000001) (pos 0) (pos 0)) (refusedListed 34)
     ∷ []

@@ -34,26 +34,27 @@ pub eta-high : (k n : ℕ) → Same (whole n) (whole 1000 *ᶠ strengthFactor k)
 unfolding whole _-ᶠ_ _*ᶠ_ _/ᶠ_ strengthFactor
 eta-high k n = by-cond (λ x. Same (whole n) (whole 1000 *ᶠ x) → n ≤ 1000) (leb k 50) (λ e same. omega arith) (λ e same. omega arith)
 
--- ---- with γc and γs left open
+-- ---- with αcc, γc and γs left open
 
-αcc-positive : Positive longTerm
-αcc-positive = omega arith
+αcc-proper : (a : ℕ) → Proper (ratio (longTerm a))
+unfolding ratio
+αcc-proper a = omega arith
 
 module _ (j : PartialFactors) (low : 1 ≤ j .concrete) where
   γc-positive : Positive (scaled j .γc)
   γc-positive = omega (arith, low)
 
-  pub g-is : (k : ℕ) → 1000 * k / j .concrete ≡ g (scaled j) k
+  pub g-is : (a k : ℕ) → 10 * a * k / j .concrete ≡ g (longTerm a) (scaled j) k
   unfolding whole ratio _*ᶠ_ _÷ᶠ_ g
-  g-is k = sym (rounded-same {m = j .concrete} (1000 * k) (search (proper, αcc-positive, γc-positive)) low (record { same = omega arith }))
+  g-is a k = sym (rounded-same {m = j .concrete} (10 * a * k) (search (αcc-proper, proper, γc-positive)) low (record { same = omega arith }))
 
   -- what a row's strength factor makes of fck is f
-  pub f-is : (k n : ℕ) → Same (whole n) (whole 1000 *ᶠ strengthFactor k) → n * k / j .concrete ≡ f (scaled j) k
+  pub f-is : (a k n : ℕ) → Same (whole n) (whole 1000 *ᶠ strengthFactor k) → n * a * k / (100 * j .concrete) ≡ f (longTerm a) (scaled j) k
   unfolding whole ratio _*ᶠ_ _÷ᶠ_ f
-  f-is k n same =
+  f-is a k n same =
       sym
-      (rounded-same {m = j .concrete} (n * k) (search (proper, strength-proper, αcc-positive, γc-positive)) low
-      (record { same = omega (arith, ap (λ (t : ℕ). t * (k * j .concrete)) (same .same)) }))
+      (rounded-same {m = 100 * j .concrete} (n * a * k) (search (αcc-proper, proper, strength-proper, γc-positive)) (omega (arith, low))
+      (record { same = omega (arith, ap (λ (t : ℕ). t * (a * k * j .concrete)) (same .same)) }))
 
   pub crd-is : 180 / j .concrete ≡ crd (scaled j)
   unfolding whole _*ᶠ_ _/ᶠ_ _÷ᶠ_ CRdc crd

@@ -1,10 +1,11 @@
--- What is answered of a grade, tests 3 and 4 of document 01 and 32 of 02's ticket 8, and what is promised of the answer. Assumes nothing.
+-- What is answered of a grade, tests 3 and 4 of document 01, 32 of 02's ticket 8 and 34 of ticket 10, and what is promised of the answer.
+-- Assumes nothing.
 use Prim.Native.Nat.{ℕ, zero, suc, _≤_}
 use mathlib.Core.List.{List, [], _∷_}
 use mathlib.Core.Path.{_≡_, refl}
 use lib.IntN.{pos, natAbs}
 use Rattle.arith.specs.Chain.{test, firstFailing, OneOf}
-use Rattle.arith.specs.Fraction.{Same, whole, _*ᶠ_}
+use Rattle.arith.specs.Fraction.{Ratio, Same, whole, _*ᶠ_}
 use Rattle.arith.specs.Integer.{inRange}
 use Rattle.materials.specs.declared.Grade.{Grade}
 use Rattle.materials.specs.declared.Class.{Class}
@@ -14,7 +15,7 @@ use Rattle.materials.specs.declared.Answer.the-variants.{Known, Refused}
 use Rattle.materials.specs.declared.Row.{Row}
 use Rattle.materials.specs.declared.Row.the-variants.{Found, Missing}
 use Rattle.materials.specs.Table.{rowOf, inTable}
-use Rattle.materials.specs.Situation.{Situation, situationOf}
+use Rattle.materials.specs.Situation.{Situation, situationOf, longTerm}
 use Rattle.materials.specs.Strength.{depthFactor, L, f, g, s, CRdc, crd}
 
 -- the tests of a grade, in the documents' sequence
@@ -26,35 +27,40 @@ gradeTests grade =
     ∷ test 4 (inRange (pos 400) (pos 600) (grade .fyk))
     -- 32 situation other than 1 or 2
     ∷ test 32 (inRange (pos 1) (pos 2) (grade .situation))
+    -- 34 αcc outside 80 to 100
+    ∷ test 34 (inRange (pos 80) (pos 100) (grade .alphacc))
     ∷ []
 
 -- the numbers that they have
 abbrev pub gradeRefusals : List ℕ
-gradeRefusals = 3 ∷ 4 ∷ 32 ∷ []
+gradeRefusals = 3 ∷ 4 ∷ 32 ∷ 34 ∷ []
 
--- the letters of 01 and 100·CRd,c, of a class and a steel that passed, in the situation j
-abbrev pub numbers : Situation → ℕ → ℕ → Class → Materials
-numbers j fck fyk class =
+-- the letters of 01 and 100·CRd,c, of a class and a steel that passed, with the factor αcc, in the situation j
+abbrev pub numbers : Ratio → Situation → ℕ → ℕ → Class → Materials
+numbers αcc j fck fyk class =
     record {
       fck = fck;
       fyk = fyk;
       t = class .t;
       e = class .e;
       l = L fck;
-      f = f j fck;
-      g = g j fck;
+      f = f αcc j fck;
+      g = g αcc j fck;
       s = s j fyk;
       crd = crd j;
     }
 
--- the situation of a grade that passed
+-- the situation and αcc of a grade that passed
 abbrev pub inSituation : Grade → Situation
 inSituation grade = situationOf (natAbs (grade .situation))
+
+abbrev pub αccOf : Grade → Ratio
+αccOf grade = longTerm (natAbs (grade .alphacc))
 
 -- The refusal of the first test that fails, or the letters. (The class of a grade that passed is in the table: the last line is never met.)
 abbrev pub answered : Grade → ℕ → Row → Answer
 answered grade (suc k) row = Refused (suc k)
-answered grade zero (Found class) = Known (numbers (inSituation grade) (natAbs (grade .fck)) (natAbs (grade .fyk)) class)
+answered grade zero (Found class) = Known (numbers (αccOf grade) (inSituation grade) (natAbs (grade .fck)) (natAbs (grade .fyk)) class)
 answered grade zero Missing = Refused 3
 
 abbrev pub materialsIn : Grade → Answer
@@ -83,7 +89,7 @@ abbrev pub Exact : Grade → Answer → Type 0
 Exact grade (Known m) = ExactNumbers grade m
 Exact grade (Refused k) = Unit {0}
 
--- The promise, no more than the parts above use: bounds of the numbers, in every situation,
+-- The promise, no more than the parts above use: bounds of the numbers, in every situation and with every αcc,
 pub record Bounds (m : Materials) : Type 0 where
   pub fck-high : m .fck ≤ 90
   pub fyk-high : m .fyk ≤ 600

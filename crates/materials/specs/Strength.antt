@@ -3,7 +3,7 @@
 use Prim.Native.Nat.{ℕ, _-_, _*_}
 use mathlib.Core.Bool.{cond}
 use lib.Dec.{leb}
-use Rattle.arith.specs.Fraction.{Fraction, whole, ratio, _-ᶠ_, _*ᶠ_, _/ᶠ_, _÷ᶠ_, roundedDown}
+use Rattle.arith.specs.Fraction.{Fraction, Ratio, whole, ratio, _-ᶠ_, _*ᶠ_, _/ᶠ_, _÷ᶠ_, roundedDown}
 use Rattle.materials.specs.Situation.{Situation}
 
 -- the depth factor λ: 0.8 up to fck 50, above it 0.8 − (fck − 50)/400
@@ -18,13 +18,13 @@ strengthFactor fck = cond (leb fck 50) (whole 1) (whole 1 -ᶠ whole (fck - 50) 
 unfoldable pub L : ℕ → ℕ
 L fck = roundedDown (whole 80 *ᶠ depthFactor fck)
 
--- 01's f, for the block: the strength factor times 100·αcc·fck/γc
-unfoldable pub f : Situation → ℕ → ℕ
-f j fck = roundedDown (strengthFactor fck *ᶠ whole (100 * fck) *ᶠ ratio (j .αcc) ÷ᶠ j .γc)
+-- 01's f, for the block: the strength factor times 100·αcc·fck/γc, "multiplied by αcc before their one rounding down" (ticket 10)
+unfoldable pub f : Ratio → Situation → ℕ → ℕ
+f αcc j fck = roundedDown (strengthFactor fck *ᶠ whole (100 * fck) *ᶠ ratio αcc ÷ᶠ j .γc)
 
 -- 01's g: 100·αcc·fck/γc
-unfoldable pub g : Situation → ℕ → ℕ
-g j fck = roundedDown (whole (100 * fck) *ᶠ ratio (j .αcc) ÷ᶠ j .γc)
+unfoldable pub g : Ratio → Situation → ℕ → ℕ
+g αcc j fck = roundedDown (whole (100 * fck) *ᶠ ratio αcc ÷ᶠ j .γc)
 
 -- 01's s: 100·fyk/γs
 unfoldable pub s : Situation → ℕ → ℕ

@@ -1,5 +1,5 @@
-// Concrete and steel: document 01, "Materials", and 02's ticket 8 for the design situation. This is the part that is exchanged country by
-// country: no part above knows a partial factor.
+// Concrete and steel: document 01, "Materials", and 02's tickets 8 for the design situation and 10 for the long-term factor. This is the
+// part that is exchanged country by country: no part above knows a partial factor or αcc.
 ghost use Prim.Native.Nat.{_≤_};
 ghost use mathlib.Core.Bool.{true};
 ghost use mathlib.Core.Path.{_≡_};
@@ -7,18 +7,19 @@ ghost use Rattle.arith.specs.Chain.{firstFailing};
 ghost use Rattle.arith.specs.Fraction.{Same, whole, _*ᶠ_};
 ghost use Rattle.materials.specs.declared.Row.the-variants.{Found};
 ghost use Rattle.materials.specs.Table.{table, find, rowOf, inTable};
-ghost use Rattle.materials.specs.Situation.{situationOf};
+ghost use Rattle.materials.specs.Situation.{situationOf, longTerm};
 ghost use Rattle.materials.specs.Strength.{depthFactor, strengthFactor, f, g, s, crd};
 ghost use Rattle.materials.specs.Answer.{numbers, materialsOf, refusalNumber, gradeTests, Exact, Promised};
 ghost use Rattle.materials.specs.Code.Factors.{scaled};
 
-// What a section asks of the materials: the concrete class and the steel by their strengths, in N/mm², and the design situation of Table
-// 2.1N, 1 persistent or 2 accidental; as a record carries them.
+// What a section asks of the materials: the concrete class and the steel by their strengths, in N/mm², the design situation of Table 2.1N,
+// 1 persistent or 2 accidental, and αcc of 3.1.6(1), the long-term factor, in hundredths; as a record carries them.
 #[repr(C)]
 pub struct Grade {
     pub fck: i64,
     pub fyk: i64,
     pub situation: i64,
+    pub alphacc: i64,
 }
 
 // What the formulas use of the materials, by the letters of document 01.
@@ -167,6 +168,7 @@ fn block_of(fck: u64) -> Block
 fn partial_factors(situation: u64) -> PartialFactors
     ensures { λ r. ⌜ scaled r ≡ situationOf situation ⌝ }
     ensures low { λ r. ⌜ (1 ≤ r .concrete) × (1 ≤ r .steel) ⌝ }
+    ensures high { λ r. ⌜ r .concrete ≤ 100 ⌝ }
 {
     if situation == 1 {
         PERSISTENT
@@ -175,20 +177,23 @@ fn partial_factors(situation: u64) -> PartialFactors
     }
 }
 
-// g: 100·fck/γc.
-fn concrete_strength(fck: u64, j: PartialFactors) -> u64
-    requires { ⌜ (fck ≤ 90) × (1 ≤ j .concrete) ⌝ }
-    ensures { λ r. ⌜ r ≡ g (scaled j) fck ⌝ }
+// g: 100·αcc·fck/γc, with αcc in hundredths and γc in tenths.
+fn concrete_strength(fck: u64, alphacc: u64, j: PartialFactors) -> u64
+    requires { ⌜ (fck ≤ 90) × (alphacc ≤ 100) ⌝ }
+    requires { ⌜ 1 ≤ j .concrete ⌝ }
+    ensures { λ r. ⌜ r ≡ g (longTerm alphacc) (scaled j) fck ⌝ }
 {
-    1000 * fck / j.concrete
+    10 * alphacc * fck / j.concrete
 }
 
-// f: the strength factor times 100·fck/γc. With η in thousandths and γc in tenths no power of ten is left.
-fn block_strength(fck: u64, eta: u64, j: PartialFactors) -> u64
-    requires { ⌜ (fck ≤ 90) × (Same (whole eta) (whole 1000 *ᶠ strengthFactor fck) × (1 ≤ j .concrete)) ⌝ }
-    ensures { λ r. ⌜ r ≡ f (scaled j) fck ⌝ }
+// f: the strength factor, in thousandths, times the same, rounded down once.
+fn block_strength(fck: u64, eta: u64, alphacc: u64, j: PartialFactors) -> u64
+    requires { ⌜ (fck ≤ 90) × (alphacc ≤ 100) ⌝ }
+    requires { ⌜ Same (whole eta) (whole 1000 *ᶠ strengthFactor fck) ⌝ }
+    requires { ⌜ (1 ≤ j .concrete) × (j .concrete ≤ 100) ⌝ }
+    ensures { λ r. ⌜ r ≡ f (longTerm alphacc) (scaled j) fck ⌝ }
 {
-    eta * fck / j.concrete
+    eta * alphacc * fck / (100 * j.concrete)
 }
 
 // s: 100·fyk/γs.
@@ -207,11 +212,12 @@ fn shear_factor(j: PartialFactors) -> u64
     180 / j.concrete
 }
 
-// All of them, of a class and a steel that passed their tests, with the factors left open.
-fn design_values(fck: u64, fyk: u64, class: Class, j: PartialFactors) -> Materials
-    requires { ⌜ (find fck table ≡ Found class) × (fyk ≤ 600) ⌝ }
+// All of them, of a class, a steel and an αcc that passed their tests, with the partial factors left open.
+fn design_values(fck: u64, fyk: u64, alphacc: u64, class: Class, j: PartialFactors) -> Materials
+    requires { ⌜ (find fck table ≡ Found class) × ((fyk ≤ 600) × (alphacc ≤ 100)) ⌝ }
     requires { ⌜ (1 ≤ j .concrete) × (1 ≤ j .steel) ⌝ }
-    ensures { λ r. ⌜ r ≡ numbers (scaled j) fck fyk class ⌝ }
+    requires { ⌜ j .concrete ≤ 100 ⌝ }
+    ensures { λ r. ⌜ r ≡ numbers (longTerm alphacc) (scaled j) fck fyk class ⌝ }
 {
     let block = block_of(fck);
     Materials {
@@ -220,14 +226,15 @@ fn design_values(fck: u64, fyk: u64, class: Class, j: PartialFactors) -> Materia
         t: class.t,
         e: class.e,
         l: block.l,
-        f: block_strength(fck, block.eta, j),
-        g: concrete_strength(fck, j),
+        f: block_strength(fck, block.eta, alphacc, j),
+        g: concrete_strength(fck, alphacc, j),
         s: steel_strength(fyk, j),
         crd: shear_factor(j),
     }
 }
 
-// The materials of a grade, or the refusal: 3 fck not in the table, 4 fyk outside 400 to 600, 32 situation other than 1 or 2.
+// The materials of a grade, or the refusal: 3 fck not in the table, 4 fyk outside 400 to 600, 32 situation other than 1 or 2, 34 αcc outside
+// 80 to 100.
 pub fn look_up(grade: Grade) -> Answer
     ensures { λ r. ⌜ r ≡ materialsOf grade ⌝ }
     ensures refusal { λ r. ⌜ refusalNumber r ≡ firstFailing (gradeTests grade) ⌝ }
@@ -237,6 +244,7 @@ pub fn look_up(grade: Grade) -> Answer
     let fck = grade.fck;
     let fyk = grade.fyk;
     let situation = grade.situation;
+    let alphacc = grade.alphacc;
     match row_of(fck) {
         Row::Missing => Answer::Refused(3),
         Row::Found(class) => {
@@ -246,8 +254,17 @@ pub fn look_up(grade: Grade) -> Answer
             if !arith::in_range(1, 2, situation) {
                 return Answer::Refused(32);
             }
+            if !arith::in_range(80, 100, alphacc) {
+                return Answer::Refused(34);
+            }
             let j = partial_factors(arith::magnitude(situation));
-            Answer::Known(design_values(arith::magnitude(fck), arith::magnitude(fyk), class, j))
+            Answer::Known(design_values(
+                arith::magnitude(fck),
+                arith::magnitude(fyk),
+                arith::magnitude(alphacc),
+                class,
+                j,
+            ))
         }
     }
 }

@@ -1,4 +1,4 @@
--- What a record holds: document 01, "The record", and 02's tickets 3 and 8. Of the bytes xs with the map m. Assumes nothing.
+-- What a record holds: document 01, "The record", and 02's tickets 3, 8 and 10. Of the bytes xs with the map m. Assumes nothing.
 use Prim.Native.Nat.{ℕ, zero, suc, _+_, _-_}
 use mathlib.Core.Bool.{cond}
 use mathlib.Core.List.{List, [], _∷_, _++_}
@@ -40,14 +40,14 @@ layersIn xs m = layersTo xs m 16
 unfoldable pub filled : List Layer → List Layer
 filled ls = ls ++ replicate (16 - length ls) noLayer
 
--- Bits 0 to 6: b, h, fck, fyk, N, M, V; bit 24: the situation. A section and a load with the numbers of their bits.
+-- Bits 0 to 6: b, h, fck, fyk, N, M, V; bit 24: the situation; bit 25: αcc. A section and a load with the numbers of their bits.
 abbrev pub sectionWith : (ℕ → ℤ) → Links → List Layer → Section
 sectionWith number links ls =
     record {
       layers = filled ls;
       width = number 0;
       height = number 1;
-      grade = record { fck = number 2; fyk = number 3; situation = number 24 };
+      grade = record { fck = number 2; fyk = number 3; situation = number 24; alphacc = number 25 };
       links = links;
       count = length ls;
     }

@@ -1,11 +1,11 @@
--- The table of fields, from which reading and writing are both defined: document 01, "The record", and 02's tickets 3 for bit 7 and 8 for
--- bit 24. Assumes nothing.
+-- The table of fields, from which reading and writing are both defined: document 01, "The record", and 02's tickets 3 for bit 7, 8 for
+-- bit 24 and 10 for bit 25. Assumes nothing.
 use Prim.Native.Nat.{ℕ, _+_}
 use mathlib.Core.Bool.{Bool, true, false}
 use mathlib.Core.List.{List, [], _∷_}
 use lib.IntN.{ℤ, pos}
 use lib.ListN.{length, getD}
-use Rattle.record.specs.declared.fields.Number.the-variants.{Width, Height, Fck, Fyk, Axial, Moment, Shear, Situation}
+use Rattle.record.specs.declared.fields.Number.the-variants.{Width, Height, Fck, Fyk, Axial, Moment, Shear, Situation, LongTerm}
 use Rattle.record.specs.declared.fields.Field.{Field}
 use Rattle.record.specs.declared.fields.Field.the-variants.{Must, May, LinkPair, LayerAt, Unused}
 
@@ -23,6 +23,8 @@ table =
     ∷ LayerAt 8 ∷ LayerAt 9 ∷ LayerAt 10 ∷ LayerAt 11 ∷ LayerAt 12 ∷ LayerAt 13 ∷ LayerAt 14 ∷ LayerAt 15
     -- bit 24: the situation; a missing value means 1
     ∷ May Situation (pos 1)
+    -- bit 25: αcc in hundredths; missing means 100
+    ∷ May LongTerm (pos 100)
     ∷ []
 
 -- how many bits it names; no bit from there on has a field

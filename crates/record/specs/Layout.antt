@@ -1,4 +1,4 @@
--- The record of a section and a load: document 01, "The record", and 02's tickets 3 and 8. Assumes nothing.
+-- The record of a section and a load: document 01, "The record", and 02's tickets 3, 8 and 10. Assumes nothing.
 use Prim.Native.Nat.{ℕ, zero, suc}
 use mathlib.Core.Bool.{Bool, true, false, cond, not}
 use mathlib.Core.List.{List, [], _++_}
@@ -11,7 +11,7 @@ use Rattle.section.specs.declared.Layer.{Layer}
 use Rattle.section.specs.declared.Links.{Links}
 use Rattle.section.specs.declared.Load.{Load}
 use Rattle.record.specs.declared.fields.Number.{Number}
-use Rattle.record.specs.declared.fields.Number.the-variants.{Width, Height, Fck, Fyk, Axial, Moment, Shear, Situation}
+use Rattle.record.specs.declared.fields.Number.the-variants.{Width, Height, Fck, Fyk, Axial, Moment, Shear, Situation, LongTerm}
 use Rattle.record.specs.declared.fields.Field.{Field}
 use Rattle.record.specs.declared.fields.Field.the-variants.{Must, May, LinkPair, LayerAt, Unused}
 use Rattle.record.specs.Bytes.{bytesOf, unsigned}
@@ -28,6 +28,7 @@ valueOf c l Axial = l .n
 valueOf c l Moment = l .m
 valueOf c l Shear = l .v
 valueOf c l Situation = c .grade .situation
+valueOf c l LongTerm = c .grade .alphacc
 
 -- the eight bytes of a field: the links' area and then their spacing, a layer's depth and then its area. Where there is no field they are
 -- never written.

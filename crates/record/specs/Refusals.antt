@@ -1,4 +1,4 @@
--- When Read a record and Write a record are turned down: document 01, and 02's tickets 3 and 8. The sequence of each is a list of
+-- When Read a record and Write a record are turned down: document 01, and 02's tickets 3, 8 and 10. The sequence of each is a list of
 -- tests, in the documents' order; the first that fails gives the refusal. The section tests, the load tests and those of the links stand
 -- on the page `Refusals` of the section. Assumes nothing.
 use Prim.Native.Nat.{ℕ}
@@ -25,7 +25,7 @@ unfoldable pub readTests : List ℕ → List ℕ
 readTests xs =
     -- 20 fewer than 4 bytes
     test 20 (leb 4 (length xs))
-    -- 21 a bit stands that has no field: one of 25 to 31
+    -- 21 a bit stands that has no field: one of 26 to 31
     ∷ test 21 (onlyFields (mapIn xs))
     -- 22 fewer bytes than the map calls for
     ∷ test 22 (leb (recordLength (mapIn xs)) (length xs))

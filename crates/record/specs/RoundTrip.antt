@@ -1,4 +1,4 @@
--- What reading back a written record yields, demand 2: document 01, "What the engine covers" and "The record"; 02's tickets 3 and 8. Assumes nothing.
+-- What reading back a written record yields, demand 2: document 01, "What the engine covers" and "The record"; 02's tickets 3, 8 and 10. Assumes nothing.
 use Prim.Native.Nat.{ℕ}
 use mathlib.Core.List.{List}
 use mathlib.Core.Path.{_≡_}

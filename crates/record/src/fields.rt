@@ -3,7 +3,8 @@ ghost use mathlib.Core.Path.{_≡_};
 ghost use Prim.Native.Nat.{_<_};
 ghost use Rattle.record.specs.Fields.{fieldOf, missing};
 
-// The fields that are signed numbers: document 01's b, h, fck, fyk, N, M and V, and the design situation of 02's ticket 8.
+// The fields that are signed numbers: document 01's b, h, fck, fyk, N, M and V, the design situation of 02's ticket 8 and the long-term
+// factor αcc of ticket 10.
 pub enum Number {
     Width,
     Height,
@@ -13,6 +14,7 @@ pub enum Number {
     Moment,
     Shear,
     Situation,
+    LongTerm,
 }
 
 pub enum Field {
@@ -29,7 +31,7 @@ pub enum Field {
 }
 
 // How many bits the table names: none from here on has a field.
-pub const WIDTH: u32 = 25;
+pub const WIDTH: u32 = 26;
 
 // The bit of the links.
 pub const LINKS: u32 = 7;
@@ -62,10 +64,11 @@ pub fn field_of(k: u32) -> Field
     if k < 24 {
         return Field::LayerAt((k - 8) as usize);
     }
-    if k == 24 {
-        return Field::May(Number::Situation, 1);
+    match k {
+        24 => Field::May(Number::Situation, 1),
+        25 => Field::May(Number::LongTerm, 100),
+        _ => Field::Unused,
     }
-    Field::Unused
 }
 
 // What a number is where its bit does not stand.

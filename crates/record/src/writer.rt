@@ -39,6 +39,7 @@ fn number_of(s: Section, l: Load, x: Number) -> i64
         Number::Moment => l.m,
         Number::Shear => l.v,
         Number::Situation => s.grade.situation,
+        Number::LongTerm => s.grade.alphacc,
     }
 }
 

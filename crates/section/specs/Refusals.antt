@@ -42,7 +42,7 @@ sectionTests c =
     test 1 (inRange (pos 50) (pos 2000) (c .width))
     -- 2 h
     ∷ test 2 (inRange (pos 50) (pos 2000) (c .height))
-    -- 3 fck not in the table, 4 fyk, 32 situation: the materials' own tests
+    -- 3 fck not in the table, 4 fyk, 32 situation, 34 αcc: the materials' own tests
     ∷ materials.refusalNumber (materials.materialsOf (c .grade))
     ∷ layerTests (natAbs (c .height)) (c .count) (c .layers)
 

@@ -9,10 +9,10 @@ block-of-requires : tie.Need-block-of-requires
 block-of-requires c κs = rw (c .pre .0 .0)
 
 block-strength-requires : tie.Need-block-strength-requires
-block-strength-requires c κs = (class-high _ (c .before .pre .0 .0), (c .block-of .ensures .1, c .before .pre .1 .0))
+block-strength-requires c κs = ((class-high _ (c .before .pre .0 .0), search needs), (c .block-of .ensures .1, search needs))
 
 concrete-strength-requires : tie.Need-concrete-strength-requires
-concrete-strength-requires c κs = (class-high _ (c .before .before .pre .0 .0), search needs)
+concrete-strength-requires c κs = ((class-high _ (c .before .before .pre .0 .0), search needs), search needs)
 
 steel-strength-requires : tie.Need-steel-strength-requires
 steel-strength-requires c κs = search needs

@@ -23,13 +23,17 @@ number-requires-4 c κs = search needs
 number-requires-5 : tie.Need-number-requires-5
 number-requires-5 c κs = search needs
 
+number-requires-6 : tie.Need-number-requires-6
+number-requires-6 c κs = search needs
+
 links-of-requires : tie.Need-links-of-requires
 links-of-requires c κs = search needs
 
 returns : tie.Need-returns
 unfolding sectionOf
 returns c =
-    let c5 = c .before in
+    let c6 = c .before in
+    let c5 = c6 .before in
     let c4 = c5 .before in
     let c3 = c4 .before in
     let c2 = c3 .before in
@@ -40,16 +44,18 @@ returns c =
     let fck = c3 .number3 in
     let fyk = c4 .number4 in
     let situation = c5 .number5 in
+    let alphacc = c6 .number6 in
     let e0 = result (b .ok) (b .ensures) in
     let e1 = result (h .ok) (h .ensures) in
     let e2 = result (fck .ok) (fck .ensures) in
     let e3 = result (fyk .ok) (fyk .ensures) in
     let e4 = result (situation .ok) (situation .ensures) in
+    let e5 = result (alphacc .ok) (alphacc .ensures) in
     λ i. record {
       layers = ls .ensures .1 i;
       width = e0 i;
       height = e1 i;
-      grade = record { fck = e2 i; fyk = e3 i; situation = e4 i };
+      grade = record { fck = e2 i; fyk = e3 i; situation = e4 i; alphacc = e5 i };
       links = c .links-of .ensures i;
       count = ls .ensures .0 i;
     }
@@ -64,5 +70,6 @@ section-of-spec =
     number-requires-3
     number-requires-4
     number-requires-5
+    number-requires-6
     links-of-requires
     returns)

@@ -28,6 +28,9 @@ enum-told-7 c = search needs
 enum-told-8 : tie.Need-enum-told-8
 enum-told-8 c = search needs
 
+enum-told-9 : tie.Need-enum-told-9
+enum-told-9 c = search needs
+
 returns : tie.Need-returns
 returns c = rw (c .before .enum-told .given .1) (field (c .before .before .before .args .s .width) (c .struct-told .given .1 .0 .1))
 
@@ -53,6 +56,11 @@ returns-8 : tie.Need-returns-8
 returns-8 c =
     rw (c .before .enum-told8 .given .1) (field (c .before .before .before .args .s .grade .situation) (c .struct-told8 .given .1 .1 .1 .0 .1 .1 .1 .1 .0 .1))
 
+returns-9 : tie.Need-returns-9
+returns-9 c =
+    rw (c .before .enum-told9 .given .1)
+    (field (c .before .before .before .args .s .grade .alphacc) (c .struct-told9 .given .1 .1 .1 .0 .1 .1 .1 .1 .1 .0 .1))
+
 pub number-of-spec : {M : Type 1} → statement M
 number-of-spec =
     tie.close
@@ -65,6 +73,7 @@ number-of-spec =
     enum-told-6
     enum-told-7
     enum-told-8
+    enum-told-9
     returns
     returns-2
     returns-3
@@ -72,4 +81,5 @@ number-of-spec =
     returns-5
     returns-6
     returns-7
-    returns-8)
+    returns-8
+    returns-9)

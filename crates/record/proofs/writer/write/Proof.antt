@@ -10,7 +10,7 @@ use Rattle.section.specs.Section.{counted, linksOf}
 use Rattle.record.specs.Bytes.{placed}
 use Rattle.record.specs.Map.{recordLength}
 use Rattle.record.specs.declared.fields.Number.{Number}
-use Rattle.record.specs.declared.fields.Number.the-variants.{Width, Height, Fck, Fyk, Axial, Moment, Shear, Situation}
+use Rattle.record.specs.declared.fields.Number.the-variants.{Width, Height, Fck, Fyk, Axial, Moment, Shear, Situation, LongTerm}
 use Rattle.record.specs.Layout.{valueOf, mapOf, fields}
 use Rattle.record.proofs.Passed.{Machine, carried}
 use Rattle.record.proofs.Readings.{testsOf}
@@ -34,6 +34,7 @@ module _ (c : tie.After-record-refusal) where
   number-fits Moment = start .good .1 .0 .1 .1 .1 .0 .1
   number-fits Shear = start .good .1 .0 .1 .1 .1 .1 .0 .1
   number-fits Situation = start .good .0 .1 .1 .1 .1 .1 .0 .1 .1 .1 .1 .0 .1
+  number-fits LongTerm = start .good .0 .1 .1 .1 .1 .1 .0 .1 .1 .1 .1 .1 .0 .1
 
   machine : Machine (start .args .s) (start .args .l)
   machine = record { places = simp length-map at (start .good .0 .1 .1 .0 .1 .0 .1); numbers = number-fits }
