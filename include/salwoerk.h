@@ -108,7 +108,7 @@ enum salwoerk_refusal {
     SALWOERK_LINK_SPACING = 28,
     SALWOERK_LINKS_WITH_AXIAL_FORCE = 29,
     SALWOERK_SITUATION = 32,
-    SALWOERK_ALPHA_CC = 34 /* not the factor itself */
+    SALWOERK_ALPHA_CC = 34 /* the refusal; the factor is grade.alpha_cc */
 };
 
 static inline const char *salwoerk_refusal_text(uint64_t refusal)

@@ -350,23 +350,23 @@ static void reduced(void)
         && r.other_mrd == 6387061);
 }
 
-/* Every call that takes a section answers the refusal; `bit` is that of the field which is refused, or is not. */
+/* Every call that takes a section answers 32, 34 or, where `refusal` is 0, none; `bit` is that of the field in question. */
 static void require_refusal(salwoerk_section a, uint32_t bit, uint64_t refusal)
 {
     uint8_t record[SALWOERK_RECORD_ROOM];
     salwoerk_load load = { 0, 1, 0 };
     int zero = refusal != 0;
     salwoerk_depth depth = salwoerk_find_depth(a, 0);
-    require("Find a depth, 32 34 and 0", depth.refusal == refusal && (depth.depth == 0) == zero);
+    require("Find a depth: refusal, and depth 0 with it", depth.refusal == refusal && (depth.depth == 0) == zero);
     salwoerk_moment moment = salwoerk_moment_at(a, 1250);
-    require("Moment at a depth, 32 34 and 0", moment.refusal == refusal && (moment.moment == 0) == zero);
+    require("Moment at a depth: refusal, and moment 0 with it", moment.refusal == refusal && (moment.moment == 0) == zero);
     salwoerk_report r = salwoerk_check(a, load);
-    require("Check, 32 34 and zeros", r.refusal == refusal && (r.u == 0) == zero && (r.mrd == 0) == zero && (r.vrd == 0) == zero);
+    require("Check: refusal, and zeros with it", r.refusal == refusal && (r.u == 0) == zero && (r.mrd == 0) == zero && (r.vrd == 0) == zero);
     salwoerk_written written = salwoerk_write(a, load, record, sizeof record);
-    require("Write, 32 34 and 0", written.refusal == refusal && (written.length == 0) == zero);
+    require("Write: refusal, and length 0 with it", written.refusal == refusal && (written.length == 0) == zero);
     salwoerk_reading reading = salwoerk_read(record, record_of(0x0000012F | bit, &a, load, record));
-    require("Read, 32 34 with its length", reading.refusal == refusal && reading.length == 60);
-    require("zeros where it is refused", all_zeros(&reading) == zero);
+    require("Read: refusal, and the length in any case", reading.refusal == refusal && reading.length == 60);
+    require("Read: zeros with a refusal", all_zeros(&reading) == zero);
 }
 
 /* 32, after 4 and before 34 and 5. */

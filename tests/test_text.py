@@ -407,7 +407,7 @@ class LongTermFactor(TextTest):
 
     START = "300 500 30 500 0 200000000 80000 "
     TITLES = "b;h;fck;fyk;N;M;V;alphacc;layers\n"
-    NAMES = ("alphacc", "AlphaCC", "alpha_cc", "alpha-cc", "αcc", "α_cc", "ΑCC")
+    NAMES = ("alphacc", "AlphaCC", "alpha_cc", "alpha-cc", "αcc", "α_cc", "ΑCC", "alfacc", "ɑcc", "\N{MATHEMATICAL ITALIC SMALL ALPHA}cc")
     EXTREMES = {"-0.05": "fffffffffffffffb", "0.00": "0000000000000000", "0.79": "000000000000004f", "1.01": "0000000000000065",
                 "85.00": "0000000000002134", "92233720368547758.07": "7fffffffffffffff", "-92233720368547758.08": "8000000000000000"}
 
@@ -459,7 +459,7 @@ class LongTermFactor(TextTest):
             self.refused(self.START + f"alphacc={word} 450/1500", f"'{word}' does not fit a record", "9223372036854775807 hundredths\n")
 
     def test_hundredths_in_place_of_the_factor_get_a_note(self):
-        said = "85 is taken as the factor 85; expected a factor such as 0.85\n"
+        said = "85 is taken as the factor 85; a factor is given as in 0.85\n"
         records = self.noted((self.START + "alphacc=85 450/1500\n") * 2, "line 1, column 8 (layer): " + said)
         self.assertEqual((len(records), records[-2:].hex()), (136, "2134"))
         self.noted(self.TITLES + "300;500;30;500;;;;85;450/1500", "line 2, column 8 (alphacc): " + said)
@@ -492,15 +492,16 @@ class LongTermFactor(TextTest):
 
     def test_a_wrong_cell_of_the_column(self):
         self.refused("Name;" + self.TITLES + "Beam 7;300;500;30;500;;;;0,85;450/1500",
-                     "line 2 'Beam 7', column 9 (alphacc)", "'0,85' is no factor", "0.85", "comma")
+                     "line 2 'Beam 7', column 9 (alphacc)", "'0,85' is no factor", "comma", "write 0.85\n")
 
     def test_titles_that_would_lose_the_factor(self):
-        for title in ("alphacc factor of annex", "αcc value", "alphacc [%]", "alpha", "α", "Alpha [-]", "acc", "a_cc", "\\alpha_{cc}",
-                      "long-term", "Long-term coefficient"):
+        for title in ("alphacc factor of annex", "αcc value", "alphacc [%]", "alpha", "α", "Alpha [-]", "alpha value", "alpha factor",
+                      "alpha c", "α_c", "αc,c", "alfa", "acc", "acc [-]", "a_cc", "a cc", "a.cc", "\\alpha_{cc}", "long-term",
+                      "Long-term coefficient", "long-term reduction factor", "long-term effects"):
             with self.subTest(title=title):
                 self.refused(f"b;h;fck;fyk;N;M;V;layers;{title}\n", "line 1, column 9", f"'{title}' is no title of alphacc",
                              "expected 'alphacc', with cells such as 0.85 or 1.00")
-        for title in ("αcw", "alpha_ct", "α [°]", "Alphabetical", "Long-term load", "Account"):
+        for title in ("αcw", "alpha_ct", "alpha_e", "α [°]", "alpha deg", "Alphabetical", "Long-term load", "Account", "Acc. no."):
             self.same(f"{title};b;h;fck;fyk;N;M;V;layers\n0.85;300;500;30;500;;200kNm;80kN;450/1500")
 
     def test_two_columns_and_one_where_blanks_part(self):

@@ -1,6 +1,7 @@
 """The text form: lines of cells to sections, and sections to lines. RULES says all of it, for whoever writes such a text."""
 
 import re
+import unicodedata
 from typing import NamedTuple, Optional
 
 import units
@@ -74,8 +75,14 @@ LINKS = re.compile(r"(?:(?:shear|vertical) )?(?:links?|stirrups?)|A(?:sw)?/s", r
 ABOUT_LINKS = re.compile(r"(?<![A-Za-z])(?:links?|stirrups?|Asw)(?![A-Za-z])", re.IGNORECASE)
 SITUATION = re.compile(r"(?:design )?situation", re.IGNORECASE)
 ABOUT_SITUATION = re.compile(r"situations?(?![A-Za-z])|(?<![A-Za-z])(?:persistent|accidental)(?![A-Za-z])", re.IGNORECASE)
-ALPHA_CC = re.compile(r"(?:(?:alpha|α)[ _-]?cc|long[ -]term factor)(?: *(?:\[-\]|\(-\)))?", re.IGNORECASE)
-ABOUT_ALPHA_CC = re.compile(r"(?:alpha|α)[^a-z°]*(?:cc|$)|^a[_-]?cc(?![a-z])|long[^a-z]*term[^a-z]*(?:factor|coeff|$)", re.IGNORECASE)
+ALPHA_CC = re.compile(r"(?:α[ _-]?cc|long[ -]term factor)(?: *(?:\[-\]|\(-\)))?", re.IGNORECASE)
+ABOUT_ALPHA_CC = re.compile(r"""
+      α c,?c? (?![a-z])                                                    # αcc, αc,c, αc
+    | α (?![a-z]) (?! [^a-z]* (?: ° | (?: c[tw] | e | deg | rad) (?![a-z])))  # α, but no angle and no other index
+    | ^a[ ._-]c,?c (?![a-z]) | ^acc [ ]* (?: [\[(].* )? $                  # a_cc, acc
+    | long[^a-z]*term (?: [^a-z]*$ | .*(?: factor | coeff | reduc | effect))  # what is said of a long term, but its loads
+    """, re.IGNORECASE | re.VERBOSE)
+ALPHAS = re.compile("alpha|alfa|ɑ", re.IGNORECASE)
 BY_NAME = {column.name.lower(): column for column in COLUMNS}
 ENOUGH_TITLES = 3  # a line that names as many columns is one of titles; two could be units that stand alone
 
@@ -163,15 +170,20 @@ def column_named(title):
     return (column, match[2] or match[3] or "") if column else None
 
 
+def spelled(title):
+    """A title with one spelling for α, and plain letters for those of a formula's typeface."""
+    return ALPHAS.sub("α", unicodedata.normalize("NFKC", title))
+
+
 def place_of(title, left):
     """What a title stands for; one without a title, or '...', goes on with the layers to its left.
 
     A title that speaks of situation, factor or links and is none of theirs is not taken as a name: its cells would be lost.
     """
     for name, extra in EXTRAS.items():
-        if extra.titles.fullmatch(title):
+        if extra.titles.fullmatch(spelled(title)):
             return extra.place
-        if extra.about.search(title):
+        if extra.about.search(spelled(title)):
             raise Complaint(f"'{shown(title)}' is no title of {name}; expected '{name}', with cells {extra.cells}")
     known = column_named(title)
     if not known:
@@ -240,9 +252,9 @@ UNTITLED = Titles((*(Place(column.name, column) for column in COLUMNS), Place("l
 
 
 def name_of(word):
-    """The name of what a line may have that a word begins with, as links=101/200 does, or none; each of its titles is one."""
+    """The name of what a line may have that a word begins with, as links=101/200 does, or none; a title of one word is such a name too."""
     title, sign, _ = word.partition("=")
-    return next((name for name, extra in EXTRAS.items() if sign and extra.titles.fullmatch(title)), "")
+    return next((name for name, extra in EXTRAS.items() if sign and extra.titles.fullmatch(spelled(title))), "")
 
 
 class Reader:

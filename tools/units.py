@@ -17,7 +17,7 @@ class Quantity(NamedTuple):
     kind: str = "number"        # what a message calls it
     words: dict = {}            # words for its numbers; it has no units then
     decimals: int = 0           # how many a plain number may have; it has no units then
-    example: str = ""           # of such a number
+    example: str = "200000000, 200_000_000 or 1.5kN"
 
     @property
     def expected(self):
@@ -35,7 +35,7 @@ class Quantity(NamedTuple):
     def doubt(self, word):
         """What a note says of a plain number that was likely meant in another unit."""
         if not self.units:
-            return f"{word} is taken as the {self.kind} {word}; expected {self.expected}"
+            return f"{word} is taken as the {self.kind} {word}; a {self.kind} is given as in {self.example}"
         return f"{word} is taken as {word} {self.record_unit}; a number may have its unit, as in {word}{list(self.units)[1]}"
 
     def factor(self, unit):
@@ -59,8 +59,8 @@ PI = 3_14159_26535_89793_23846_26433_83279_50288_41971, 10**40
 UNITS = {unit for quantity in (LENGTH, AREA, FORCE, MOMENT) for unit in quantity.units}
 
 
-def hint(word):
-    """Why a word that looks like a number is none."""
+def hint(word, example):
+    """Why a word that looks like a number is none; `example` is of one."""
     odd = next((sign for sign in word if not 32 <= ord(sign) < 127), None)
     if odd is not None and 0xDC80 <= ord(odd) <= 0xDCFF:
         return f"; byte {ord(odd) - 0xDC00:02X} is not text in UTF-8"
@@ -71,7 +71,7 @@ def hint(word):
     if len(word) > LONGEST:
         return f"; no number of a record has {len(word)} characters"
     if "," in word:
-        return "; a comma may mean thousands or decimals: write 200000000, 200_000_000 or 1.5kN"
+        return f"; a comma may mean thousands or decimals: write {example}"
     if word in UNITS:
         return "; a unit stands directly after its number, as in 80kN"
     if " " in word:
@@ -85,7 +85,8 @@ def whole(word, quantity, bounds, unit=""):
         return quantity.words[word.lower()]
     match = NUMBER.fullmatch(word) if len(word) <= LONGEST else None
     if not match or quantity.words and any(match.group(2, 3)):
-        raise Complaint(f"'{shown(word)}' is no {quantity.kind}; expected {quantity.expected}{'' if quantity.words else hint(word)}")
+        why = "" if quantity.words else hint(word, quantity.example)
+        raise Complaint(f"'{shown(word)}' is no {quantity.kind}; expected {quantity.expected}{why}")
     digits, decimals, suffix = match.groups()
     named = suffix or unit
     factor = quantity.factor(named) if named else 10**quantity.decimals

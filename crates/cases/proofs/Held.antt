@@ -27,7 +27,7 @@ use Rattle.verdicts.specs.Tension.{tensionLayers, total, meanDepth}
 use Rattle.clauses.specs.Check.{reportOf, reportAt, checkIn}
 use Rattle.cases.specs.Case.{sameListed, holds, depthHolds, checkHolds}
 use Rattle.cases.specs.Cases.{cases, depthRows, checkRows}
-use Rattle.cases.proofs.Quick.{isDepth, finds, tries, depths-sound, reports, shows, checks-sound}
+use Rattle.cases.proofs.Quick.{isDepth, foundAt, tries, depths-sound, reports, shows, checks-sound}
 
 -- the seal of the materials, opened for all of them at once
 everywhere : materialsOf ≡ materialsIn
@@ -36,7 +36,7 @@ everywhere = λ i grade. opened grade i
 all-hold : T (every holds cases) × (T (every tries depthRows) × T (every shows checkRows))
 unfolding cases depthRows checkRows sectionTests accepted depthIn momentIn checkIn readTests readOf
 all-hold = rw everywhere (
-    unfold sameListed isDepth finds reports
+    unfold sameListed isDepth foundAt reports
     whole integer ratio _+ᶠ_ _-ᶠ_ _*ᶠ_ _/ᶠ_ _÷ᶠ_ _+ʳ_ reciprocal atMost isSame held floor roundedDown greatest firstGreatest
     depthFactor strengthFactor L f g s CRdc crd
     at concreteForce stress layerForce steelForce internalForce concreteMoment layerMoment steelResistance momentResistance

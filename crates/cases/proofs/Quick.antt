@@ -60,14 +60,14 @@ module _ (s : Section) (N : ℤ) (u : ℕ) where
   failing = firstFailing (findDepthTests (counted s) N)
 
   -- of the section, and the first of the tests that fails
-  unfoldable pub finds : Accepted → ℕ → Bool
-  finds (Ready x) k = eqb k 0 && isDepth x (layersOf s) N u
-  finds (Refused j) k = false
+  unfoldable pub foundAt : Accepted → ℕ → Bool
+  foundAt (Ready x) k = eqb k 0 && isDepth x (layersOf s) N u
+  foundAt (Refused j) k = false
 
-  finds-sound : (a : Accepted) → accepted (counted s) ≡ a → finds a failing ≡ true → findDepth s N ≡ At u
-  unfolding finds depthIn
-  finds-sound (Refused j) e h = absurd (holds h)
-  finds-sound (Ready x) e h =
+  found-sound : (a : Accepted) → accepted (counted s) ≡ a → foundAt a failing ≡ true → findDepth s N ≡ At u
+  unfolding foundAt depthIn
+  found-sound (Refused j) e h = absurd (holds h)
+  found-sound (Ready x) e h =
       let both = both-true (eqb failing 0) (isDepth x (layersOf s) N u) h in
       let none : failing ≡ 0 = eqb-true failing 0 (both .0) in
       rw (none, e) (ap At (depth-is x (layersOf s) N u (both .1)))
@@ -112,16 +112,16 @@ module _ (s : Section) (load : Load) (l : Listed) where
 
 -- ---- the test that is computed of a row, and that it says no less than the row
 
-abbrev pub findsRow : DepthRow → Bool
-findsRow row =
-    finds (row .section) (row .n) (row .u) (accepted (counted (row .section))) (firstFailing (findDepthTests (counted (row .section)) (row .n)))
+abbrev foundRow : DepthRow → Bool
+foundRow row =
+    foundAt (row .section) (row .n) (row .u) (accepted (counted (row .section))) (firstFailing (findDepthTests (counted (row .section)) (row .n)))
 
 abbrev pub tries : DepthRow → Bool
-tries row = cond (eqb (row .refusal) 0) (findsRow row) (depthHolds row)
+tries row = cond (eqb (row .refusal) 0) (foundRow row) (depthHolds row)
 
-tries-sound : (row : DepthRow) (done : Bool) → eqb (row .refusal) 0 ≡ done → cond done (findsRow row) (depthHolds row) ≡ true → depthHolds row ≡ true
+tries-sound : (row : DepthRow) (done : Bool) → eqb (row .refusal) 0 ≡ done → cond done (foundRow row) (depthHolds row) ≡ true → depthHolds row ≡ true
 tries-sound row true none h =
-    let is = finds-sound (row .section) (row .n) (row .u) (accepted (counted (row .section))) refl h in
+    let is = found-sound (row .section) (row .n) (row .u) (accepted (counted (row .section))) refl h in
     rw (is, eqb-true (row .refusal) 0 none) (is-true _ (eqb-refl (row .u)))
 tries-sound row false none h = h
 

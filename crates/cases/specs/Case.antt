@@ -140,7 +140,7 @@ pub record DepthRow : Type 0 where
   pub refusal : ℕ
   pub u : ℕ
 
-abbrev pub isFound : Depth → ℕ → ℕ → Bool
+abbrev isFound : Depth → ℕ → ℕ → Bool
 isFound d k u = eqb (depth.refusalNumber d) k && eqb (depth.depthFound d) u
 
 abbrev pub depthHolds : DepthRow → Bool

@@ -263,7 +263,7 @@ cases =
     ∷ tests (AWith (pos 0) (pos 100) 399 1) 4
     ∷ tests (AWith (pos 3) (pos 100) 500 0) 32
     ∷ tests (AWith (pos 2) (pos 100) 500 0) 5
-    -- request 8: the situation stands after the layer (that a 1 is not written shows the example's record above)
+    -- request 8: the situation stands after the layer (that a 1 is not written is shown by the example's record above)
     ∷ written accidentalA (load (pos 0) (pos 200000000) (pos 80000)) (recordA 1 (eight 2))
     -- request 8: a missing value means 1, a present 1 is read too; 32 and zeros
     ∷ read (recordA 0 []) 0 60 (pos 1) (pos 100)
@@ -294,7 +294,7 @@ cases =
     ∷ tests (AWith (pos 3) (pos 79) 500 1) 32
     ∷ tests (AWith (pos 1) (pos 101) 500 0) 34
     ∷ tests (AWith (pos 1) (pos 85) 500 0) 5
-    -- request 10: αcc stands last, after the layer and the situation (that a 100 is not written shows the example's record above)
+    -- request 10: αcc stands last, after the layer and the situation (that a 100 is not written is shown by the example's record above)
     ∷ written reducedA (load (pos 0) (pos 200000000) (pos 80000)) (recordA 2 (eight 85))
     ∷ written accidentalReducedA (load (pos 0) (pos 200000000) (pos 80000)) (recordA 3 (eight 2 ++ eight 85))
     -- request 10: missing means 100 (above), a present 100 is read too; 34 and zeros; bit 26

@@ -2,95 +2,116 @@
 -- part above may use of the materials. Assumes nothing.
 use Prim.Native.Nat.{ℕ, _≤_}
 use mathlib.Core.Bool.{Bool, true, false, _&&_}
-use mathlib.Core.List.{[], _∷_}
+use mathlib.Core.List.{List, [], _∷_}
 use mathlib.Core.Path.{_≡_, refl, sym, _∙_}
+use native.Mathlib.Nat.{le-trans}
 use native.Mathlib.Omega.{arith}
 use lib.Dec.{T, leb, eqb, leb→le}
 use lib.IntN.{ℤ, pos, negsuc, natAbs}
+use lib.ListN.{getD}
 use Rattle.arith.specs.Chain.{test, firstFailing}
 use Rattle.arith.specs.Every.{every}
-use Rattle.arith.specs.Fraction.{Ratio, whole, ratio, _-ᶠ_, _*ᶠ_, _/ᶠ_, _÷ᶠ_, Same, isSame, floor, roundedDown}
+use Rattle.arith.specs.Fraction.{whole, ratio, _-ᶠ_, _*ᶠ_, _/ᶠ_, _÷ᶠ_, Same, isSame, floor, roundedDown}
 use Rattle.arith.specs.Integer.{inRange}
-use Rattle.arith.proofs.Computed.{allBetween, between}
+use Rattle.arith.proofs.Computed.{allBetween, between, nth}
 use Rattle.arith.proofs.Fraction.{same-by}
 use Rattle.arith.proofs.Range.{Natural, natural}
 use Rattle.arith.proofs.Test.{and-yes, by-cond}
 use Rattle.materials.specs.declared.Answer.{Answer}
 use Rattle.materials.specs.declared.Class.{Class}
 use Rattle.materials.specs.declared.Grade.{Grade}
+use Rattle.materials.specs.declared.Materials.{Materials}
 use Rattle.materials.specs.declared.Row.{Row}
 use Rattle.materials.specs.declared.Row.the-variants.{Found, Missing}
 use Rattle.materials.specs.Table.{table, find, rowOf, inTable}
 use Rattle.materials.specs.Situation.{Situation, persistent, accidental, situationOf, longTerm}
 use Rattle.materials.specs.Strength.{depthFactor, strengthFactor, L, f, g, s, CRdc, crd}
 use Rattle.materials.specs.Answer.{gradeTests, numbers, answered, materialsIn, materialsOf, opened, refusalNumber, Exact, Bounds, Promised}
+use Rattle.materials.proofs.Strength.{s-rises}
 use Rattle.materials.proofs.Table.{passes, found}
 
--- ---- tests that are computed once, of both situations and of every αcc
+-- ---- a test of both situations passes in the one that a number names
 
 abbrev inBoth : (Situation → Bool) → Bool
 inBoth p = p persistent && p accidental
 
--- what both pass, the one passes that a number names
 in-either : (p : Situation → Bool) → T (inBoth p) → (i : ℕ) → T (p (situationOf i))
 in-either p t i = let both = and-yes (p persistent) (p accidental) t in by-cond (λ j. T (p j)) (eqb i 1) (λ e. both .0) (λ e. both .1)
 
--- and of every number from a to b
-abbrev inEach : ℕ → ℕ → (ℕ → Situation → Bool) → Bool
-inEach a b p = allBetween a b (λ x. inBoth (p x))
+-- ---- the bounds: one test over every class, every αcc and both situations, with the strongest steel; and the law that s rises with fyk
 
-in-any : (a b : ℕ) (p : ℕ → Situation → Bool) → T (inEach a b p) → {z : ℤ} → Natural a b z → (i : ℕ) → T (p (natAbs z) (situationOf i))
-in-any a b p t {z} n i = in-either (p (natAbs z)) (between a b (λ x. inBoth (p x)) t (natAbs z) (n .low) (n .high)) i
+-- each as what is at most what, in the sequence of `Bounds`; that of fyk is its own test
+abbrev limits : Materials → List (ℕ × ℕ)
+limits m =
+    (m .fck, 90)
+    ∷ (m .t, 50)
+    ∷ (520, m .e)
+    ∷ (m .e, 700)
+    ∷ (56, m .l)
+    ∷ (m .l, 64)
+    ∷ (1, m .f)
+    ∷ (m .f, 6000)
+    ∷ (m .g, 7500)
+    ∷ (m .s, 60000)
+    ∷ (m .crd, 15)
+    ∷ []
 
--- of each class of the table, at the class that is found
-module _ (k : ℕ) {class : Class} (row : find k table ≡ Found class) where
-  at-class : (p : ℕ → Class → Bool) → T (every (passes p) table) → T (p k class)
-  at-class p all = found p k table all row
+abbrev ordered : ℕ × ℕ → Bool
+ordered pair = leb (pair .0) (pair .1)
 
-  class-most : (a b : ℕ → Class → ℕ) → T (every (passes (λ k c. leb (a k c) (b k c))) table) → a k class ≤ b k class
-  class-most a b all = leb→le _ _ (at-class (λ k c. leb (a k c) (b k c)) all)
+-- with fyk 600, at fck and its class, αcc in hundredths and a situation
+abbrev strongest : ℕ → Class → ℕ → Situation → Materials
+strongest k class x j = numbers (longTerm x) j k 600 class
 
-  pub class-high : k ≤ 90
-  class-high = class-most (λ k c. k) (λ k c. 90) tt
+abbrev limited : ℕ → Class → ℕ → Situation → Bool
+limited k class x j = every ordered (limits (strongest k class x j))
 
--- ---- the bounds, of a class, a steel and an αcc that passed their tests, in situation i
+abbrev alwaysLimited : ℕ → Class → Bool
+alwaysLimited k class = allBetween 80 100 (λ x. inBoth (limited k class x))
 
--- a bound as a test, at fck, αcc in hundredths and a situation
-abbrev bounded : (a b : Ratio → Situation → ℕ → ℕ) → ℕ → ℕ → Situation → Bool
-bounded a b k x j = leb (a (longTerm x) j k) (b (longTerm x) j k)
+all-limited : T (every (passes alwaysLimited) table)
+unfolding whole ratio _-ᶠ_ _*ᶠ_ _/ᶠ_ _÷ᶠ_ floor roundedDown depthFactor strengthFactor L f g s CRdc crd
+all-limited = tt
 
-module _ (i k : ℕ) {class : Class} (row : find k table ≡ Found class) {fyk alphacc : ℤ} (y : Natural 400 600 fyk) (x : Natural 80 100 alphacc) where
-  abbrev αcc : Ratio
-  αcc = longTerm (natAbs alphacc)
+-- in situation i, of a class and an αcc that passed their tests,
+module _ (i k : ℕ) {class : Class} (row : find k table ≡ Found class) {alphacc : ℤ} (x : Natural 80 100 alphacc) where
+  abbrev pairs : List (ℕ × ℕ)
+  pairs = limits (strongest k class (natAbs alphacc) (situationOf i))
 
-  -- one test over every class, every αcc and both situations
-  strength-most : (a b : Ratio → Situation → ℕ → ℕ) → T (every (passes (λ k c. inEach 80 100 (bounded a b k))) table)
-      → a αcc (situationOf i) k ≤ b αcc (situationOf i) k
-  strength-most a b all = leb→le _ _ (in-any 80 100 (bounded a b k) (at-class k row (λ k c. inEach 80 100 (bounded a b k)) all) x i)
+  -- the n-th of them
+  limit : (n : ℕ) → getD pairs n (0, 0) .0 ≤ getD pairs n (0, 0) .1
+  limit n =
+      let every-x = found alwaysLimited k table all-limited row in
+      let both = between 80 100 (λ x. inBoth (limited k class x)) every-x (natAbs alphacc) (x .low) (x .high) in
+      leb→le _ _ (nth ordered pairs (0, 0) (in-either (limited k class (natAbs alphacc)) both i) tt n)
 
-  bounds : Bounds (numbers αcc (situationOf i) k (natAbs fyk) class)
-  unfolding whole ratio _-ᶠ_ _*ᶠ_ _/ᶠ_ _÷ᶠ_ floor roundedDown depthFactor strengthFactor L f g s CRdc crd
-  bounds = record {
-    fck-high = class-high k row;
+  -- and of a steel
+  bounds : {fyk : ℤ} → Natural 400 600 fyk → Bounds (numbers (longTerm (natAbs alphacc)) (situationOf i) k (natAbs fyk) class)
+  bounds y = record {
+    fck-high = limit 0;
     fyk-high = y .high;
-    T-high = class-most k row (λ k c. c .t) (λ k c. 50) tt;
-    E-low = class-most k row (λ k c. 520) (λ k c. c .e) tt;
-    E-high = class-most k row (λ k c. c .e) (λ k c. 700) tt;
-    L-low = class-most k row (λ k c. 56) (λ k c. L k) tt;
-    L-high = class-most k row (λ k c. L k) (λ k c. 64) tt;
-    f-low = strength-most (λ αcc j k. 1) f tt;
-    f-high = strength-most f (λ αcc j k. 6000) tt;
-    g-high = strength-most g (λ αcc j k. 7500) tt;
-    s-high = leb→le _ _ (in-any 400 600 (λ y j. leb (s j y) 60000) tt y i);
-    crd-high = leb→le _ _ (in-either (λ j. leb (crd j) 15) tt i);
+    T-high = limit 1;
+    E-low = limit 2;
+    E-high = limit 3;
+    L-low = limit 4;
+    L-high = limit 5;
+    f-low = limit 6;
+    f-high = limit 7;
+    g-high = limit 8;
+    s-high = le-trans (s-rises (situationOf i) (y .high)) (limit 9);
+    crd-high = limit 10;
   }
+
+-- the first of them is of the class alone
+pub class-high : (k : ℕ) {class : Class} → find k table ≡ Found class → k ≤ 90
+class-high k row = limit 1 k row (natural 80 100 (pos 100) refl) 0
 
 -- ---- nothing rounded
 
 -- 80 times the depth factor is whole at each class,
 L-whole : (k : ℕ) {class : Class} → find k table ≡ Found class → Same (whole (L k)) (whole 80 *ᶠ depthFactor k)
 unfolding whole _-ᶠ_ _*ᶠ_ _/ᶠ_ isSame floor roundedDown depthFactor L
-L-whole k row = same-by (at-class k row (λ k c. isSame (whole (L k)) (whole 80 *ᶠ depthFactor k)) tt)
+L-whole k row = same-by (found (λ k c. isSame (whole (L k)) (whole 80 *ᶠ depthFactor k)) k table tt row)
 
 -- and 100 times CRd,c in either situation
 crd-whole : (i : ℕ) → Same (whole (crd (situationOf i))) (whole 100 *ᶠ CRdc (situationOf i))
@@ -115,7 +136,7 @@ kept grade (pos k) (Found class) true true true is row y x =
     record {
       number = refl;
       exact = rw is record { L-exact = L-whole k row; crd-exact = crd-whole i };
-      promised = record { asked = record { fck-is = rw is; fyk-is = n .is }; bounds = rw is (bounds i k row n (natural 80 100 (grade .alphacc) x)) };
+      promised = record { asked = record { fck-is = rw is; fyk-is = n .is }; bounds = rw is (bounds i k row (natural 80 100 (grade .alphacc) x) n) };
     }
 kept grade (negsuc k) (Found class) true true true is row y x = absurd (let z : _≡_ {A = ℕ} 0 1 = cc in omega arith)
 kept grade fck (Found class) true true false is row y x = record { number = refl; exact = tt; promised = record { member = tt } }

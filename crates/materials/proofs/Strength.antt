@@ -2,15 +2,16 @@
 -- the block's factors, which are exact. Assumes nothing.
 use Prim.Native.Nat.{ℕ, _*_, _/_, _≤_}
 use mathlib.Core.Path.{_≡_, sym, ap, _∙_}
-use native.Mathlib.Nat.{div-one}
+use native.Mathlib.Nat.{div-one, mul-le-mul-left, mul-le-mul-right}
 use native.Mathlib.Omega.{arith}
 use lib.Dec.{leb}
 use Rattle.arith.specs.Fraction.{Proper, whole, ratio, _-ᶠ_, _*ᶠ_, _/ᶠ_, _÷ᶠ_, Same}
 use Rattle.arith.proofs.Fraction.{Positive, proper}
-use Rattle.arith.proofs.Quotient.{rounded-same}
+use Rattle.arith.proofs.Floor.{quotient-rises}
+use Rattle.arith.proofs.Quotient.{rounded-same, rounded-over}
 use Rattle.arith.proofs.Test.{by-cond}
 use Rattle.materials.specs.declared.PartialFactors.{PartialFactors}
-use Rattle.materials.specs.Situation.{longTerm}
+use Rattle.materials.specs.Situation.{Situation, longTerm}
 use Rattle.materials.specs.Strength.{depthFactor, strengthFactor, L, f, g, s, CRdc, crd}
 use Rattle.materials.specs.Code.Factors.{scaled}
 
@@ -60,10 +61,13 @@ module _ (j : PartialFactors) (low : 1 ≤ j .concrete) where
   unfolding whole _*ᶠ_ _/ᶠ_ _÷ᶠ_ CRdc crd
   crd-is = sym (rounded-same {m = j .concrete} 180 (search (proper, γc-positive)) low (record { same = omega arith }))
 
-module _ (j : PartialFactors) (low : 1 ≤ j .steel) where
-  γs-positive : Positive (scaled j .γs)
-  γs-positive = omega (arith, low)
+pub s-is : (j : PartialFactors) (y : ℕ) → 10000 * y / j .steel ≡ s (scaled j) y
+unfolding s
+s-is j y = let e : 10000 * y ≡ 100 * y * 100 = omega arith in ap (λ (n : ℕ). n / j .steel) e ∙ sym (rounded-over (100 * y) (scaled j .γs))
 
-  pub s-is : (k : ℕ) → 10000 * k / j .steel ≡ s (scaled j) k
-  unfolding whole _÷ᶠ_ s
-  s-is k = sym (rounded-same {m = j .steel} (10000 * k) (search (proper, γs-positive)) low (record { same = omega arith }))
+-- the steel's strength rises with fyk
+pub s-rises : (j : Situation) {y z : ℕ} → y ≤ z → s j y ≤ s j z
+unfolding s
+s-rises j {y} {z} h =
+    rw (rounded-over (100 * y) (j .γs), rounded-over (100 * z) (j .γs))
+    (quotient-rises (j .γs .p) (mul-le-mul-right (j .γs .q) (mul-le-mul-left 100 h)))

@@ -1,5 +1,5 @@
 // Concrete and steel: document 01, "Materials", and 02's tickets 8 for the design situation and 10 for the long-term factor. This is the
-// part that is exchanged country by country: no part above knows a partial factor or αcc.
+// part that is exchanged country by country: no formula above it has a partial factor or αcc.
 ghost use Prim.Native.Nat.{_≤_};
 ghost use mathlib.Core.Bool.{true};
 ghost use mathlib.Core.Path.{_≡_};
@@ -164,7 +164,7 @@ fn block_of(fck: u64) -> Block
     block
 }
 
-// The row of Table 2.1N: 1 persistent, 2 accidental.
+// The row of Table 2.1N: 1 persistent, 2 accidental. By its clause `high` 100 times γc fits, by which f is divided.
 fn partial_factors(situation: u64) -> PartialFactors
     ensures { λ r. ⌜ scaled r ≡ situationOf situation ⌝ }
     ensures low { λ r. ⌜ (1 ≤ r .concrete) × (1 ≤ r .steel) ⌝ }

@@ -68,8 +68,8 @@ module _ (c : tie.After-row-of) where
   situation-read : toZ w64 (ofZ w64 (grade .situation)) ≡ grade .situation
   situation-read = field (grade .situation) (c .before .before .struct-told3 .given .1 .1 .0 .1)
 
-  factor-read : toZ w64 (ofZ w64 (grade .alphacc)) ≡ grade .alphacc
-  factor-read = field (grade .alphacc) (c .before .struct-told4 .given .1 .1 .1 .0 .1)
+  long-term-read : toZ w64 (ofZ w64 (grade .alphacc)) ≡ grade .alphacc
+  long-term-read = field (grade .alphacc) (c .before .struct-told4 .given .1 .1 .1 .0 .1)
 
   -- the row that was found
   row-is : c .row-of .result ≡ rowOf (grade .fck)
@@ -111,8 +111,8 @@ module _ (c : tie.After-in-range3) where
   situation-is : inRange (pos 1) (pos 2) (grade first .situation) ≡ true
   situation-is = passed (situation-test situationTested) (c .before .if2 .left)
 
-  factor-test : c .in-range3 .result ≡ inRange (pos 80) (pos 100) (grade first .alphacc)
-  factor-test = c .in-range3 .ensures ∙ ap (λ z. inRange (pos 80) (pos 100) z) (factor-read first)
+  long-term-test : c .in-range3 .result ≡ inRange (pos 80) (pos 100) (grade first .alphacc)
+  long-term-test = c .in-range3 .ensures ∙ ap (λ z. inRange (pos 80) (pos 100) z) (long-term-read first)
 
 -- and an αcc in its own
 module _ (c : tie.After-magnitude4) where
@@ -125,8 +125,8 @@ module _ (c : tie.After-magnitude4) where
   abbrev asked : Grade
   asked = grade (first passes)
 
-  factor-is : inRange (pos 80) (pos 100) (asked .alphacc) ≡ true
-  factor-is = passed (factor-test passes) (factors .before .before .if3 .left)
+  long-term-is : inRange (pos 80) (pos 100) (asked .alphacc) ≡ true
+  long-term-is = passed (long-term-test passes) (factors .before .before .if3 .left)
 
   fck-is : c .before .before .magnitude2 .result ≡ natAbs (asked .fck)
   fck-is = c .before .before .magnitude2 .ensures ∙ ap natAbs (fck-read (first passes))
@@ -135,7 +135,7 @@ module _ (c : tie.After-magnitude4) where
   fyk-is = c .before .magnitude3 .ensures ∙ ap natAbs (fyk-read (first passes))
 
   alphacc-is : c .magnitude4 .result ≡ natAbs (asked .alphacc)
-  alphacc-is = c .magnitude4 .ensures ∙ ap natAbs (factor-read (first passes))
+  alphacc-is = c .magnitude4 .ensures ∙ ap natAbs (long-term-read (first passes))
 
   factors-are : scaled (factors .partial-factors .result) ≡ inSituation asked
   factors-are =
@@ -149,7 +149,7 @@ design-values-requires c κs =
         rw (fck-is c) (class-row (asked c .fck) (class-is (steelTested steel))),
         (
           rw (fyk-is c) (natural 400 600 (asked c .fyk) (steel-is steel) .high),
-          rw (alphacc-is c) (natural 80 100 (asked c .alphacc) (factor-is c) .high),
+          rw (alphacc-is c) (natural 80 100 (asked c .alphacc) (long-term-is c) .high),
         ),
       ),
       factors c .partial-factors .ensures .1,
@@ -169,7 +169,7 @@ returns-3 : tie.Need-returns-3
 returns-3 c =
     let a = c .before in
     let steel = situationTested a in
-    clauses (grade (first a)) (rw (class-is (steelTested steel), steel-is steel, situation-is a, failed (factor-test a) (c .if3 .taken)))
+    clauses (grade (first a)) (rw (class-is (steelTested steel), steel-is steel, situation-is a, failed (long-term-test a) (c .if3 .taken)))
 
 returns-4 : tie.Need-returns-4
 returns-4 c =
@@ -185,7 +185,7 @@ returns-5 c =
       class-is (steelTested steel),
       steel-is steel,
       situation-is (passes a),
-      factor-is a,
+      long-term-is a,
       c .design-values .ensures,
       fck-is a,
       fyk-is a,

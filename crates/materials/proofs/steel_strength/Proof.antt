@@ -11,7 +11,7 @@ div-result : tie.Need-div-result
 div-result c = search needs
 
 returns : tie.Need-returns
-returns c = s-is (c .before .args .j) (c .before .pre .1) (c .before .args .fyk)
+returns c = s-is (c .before .args .j) (c .before .args .fyk)
 
 pub steel-strength-spec : {M : Type 1} → statement M
 steel-strength-spec = tie.close (tie.spec mul-result div-result returns)
