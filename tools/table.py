@@ -77,9 +77,9 @@ SITUATION = re.compile(r"(?:design )?situation", re.IGNORECASE)
 ABOUT_SITUATION = re.compile(r"situations?(?![A-Za-z])|(?<![A-Za-z])(?:persistent|accidental)(?![A-Za-z])", re.IGNORECASE)
 ALPHA_CC = re.compile(r"(?:α[ _-]?cc|long[ -]term factor)(?: *(?:\[-\]|\(-\)))?", re.IGNORECASE)
 ABOUT_ALPHA_CC = re.compile(r"""
-      α c,?c? (?![a-z])                                                    # αcc, αc,c, αc
+      α c,?c? (?![a-z])                                                       # αcc, αc,c, αc
     | α (?![a-z]) (?! [^a-z]* (?: ° | (?: c[tw] | e | deg | rad) (?![a-z])))  # α, but no angle and no other index
-    | ^a[ ._-]c,?c (?![a-z]) | ^acc [ ]* (?: [\[(].* )? $                  # a_cc, acc
+    | ^a[ ._-]c,?c (?![a-z]) | ^acc [ ]* (?: [\[(].* )? $                     # a_cc, acc
     | long[^a-z]*term (?: [^a-z]*$ | .*(?: factor | coeff | reduc | effect))  # what is said of a long term, but its loads
     """, re.IGNORECASE | re.VERBOSE)
 ALPHAS = re.compile("alpha|alfa|ɑ", re.IGNORECASE)
@@ -180,10 +180,11 @@ def place_of(title, left):
 
     A title that speaks of situation, factor or links and is none of theirs is not taken as a name: its cells would be lost.
     """
+    plain = spelled(title)
     for name, extra in EXTRAS.items():
-        if extra.titles.fullmatch(spelled(title)):
+        if extra.titles.fullmatch(plain):
             return extra.place
-        if extra.about.search(spelled(title)):
+        if extra.about.search(plain):
             raise Complaint(f"'{shown(title)}' is no title of {name}; expected '{name}', with cells {extra.cells}")
     known = column_named(title)
     if not known:
@@ -254,7 +255,8 @@ UNTITLED = Titles((*(Place(column.name, column) for column in COLUMNS), Place("l
 def name_of(word):
     """The name of what a line may have that a word begins with, as links=101/200 does, or none; a title of one word is such a name too."""
     title, sign, _ = word.partition("=")
-    return next((name for name, extra in EXTRAS.items() if sign and extra.titles.fullmatch(spelled(title))), "")
+    plain = spelled(title)
+    return next((name for name, extra in EXTRAS.items() if sign and extra.titles.fullmatch(plain)), "")
 
 
 class Reader:

@@ -17,7 +17,7 @@ class Quantity(NamedTuple):
     kind: str = "number"        # what a message calls it
     words: dict = {}            # words for its numbers; it has no units then
     decimals: int = 0           # how many a plain number may have; it has no units then
-    example: str = "200000000, 200_000_000 or 1.5kN"
+    example: str = "200000000, 200_000_000 or 1.5kN"  # of how one is written
 
     @property
     def expected(self):

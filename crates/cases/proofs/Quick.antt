@@ -55,21 +55,22 @@ module _ (x : Design) (ls : List Layer) (N : ℤ) (u : ℕ) where
 
 -- ---- a row of Find a depth that is not refused
 
-module _ (s : Section) (N : ℤ) (u : ℕ) where
-  abbrev failing : ℕ
-  failing = firstFailing (findDepthTests (counted s) N)
+-- the first of its tests that fails
+abbrev failing : Section → ℤ → ℕ
+failing s N = firstFailing (findDepthTests (counted s) N)
 
-  -- of the section, and the first of the tests that fails
+module _ (s : Section) (N : ℤ) (u : ℕ) where
+  -- of the section, and of that number
   unfoldable pub foundAt : Accepted → ℕ → Bool
   foundAt (Ready x) k = eqb k 0 && isDepth x (layersOf s) N u
   foundAt (Refused j) k = false
 
-  found-sound : (a : Accepted) → accepted (counted s) ≡ a → foundAt a failing ≡ true → findDepth s N ≡ At u
+  found-sound : (a : Accepted) → accepted (counted s) ≡ a → foundAt a (failing s N) ≡ true → findDepth s N ≡ At u
   unfolding foundAt depthIn
   found-sound (Refused j) e h = absurd (holds h)
   found-sound (Ready x) e h =
-      let both = both-true (eqb failing 0) (isDepth x (layersOf s) N u) h in
-      let none : failing ≡ 0 = eqb-true failing 0 (both .0) in
+      let both = both-true (eqb (failing s N) 0) (isDepth x (layersOf s) N u) h in
+      let none : failing s N ≡ 0 = eqb-true (failing s N) 0 (both .0) in
       rw (none, e) (ap At (depth-is x (layersOf s) N u (both .1)))
 
 -- ---- a row of Check that is not refused
@@ -113,8 +114,7 @@ module _ (s : Section) (load : Load) (l : Listed) where
 -- ---- the test that is computed of a row, and that it says no less than the row
 
 abbrev foundRow : DepthRow → Bool
-foundRow row =
-    foundAt (row .section) (row .n) (row .u) (accepted (counted (row .section))) (firstFailing (findDepthTests (counted (row .section)) (row .n)))
+foundRow row = foundAt (row .section) (row .n) (row .u) (accepted (counted (row .section))) (failing (row .section) (row .n))
 
 abbrev pub tries : DepthRow → Bool
 tries row = cond (eqb (row .refusal) 0) (foundRow row) (depthHolds row)

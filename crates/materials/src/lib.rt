@@ -164,7 +164,7 @@ fn block_of(fck: u64) -> Block
     block
 }
 
-// The row of Table 2.1N: 1 persistent, 2 accidental. By its clause `high` 100 times γc fits, by which f is divided.
+// The row of Table 2.1N: 1 persistent, 2 accidental. The clause `high` is for f, which is divided by 100 times γc: that product fits.
 fn partial_factors(situation: u64) -> PartialFactors
     ensures { λ r. ⌜ scaled r ≡ situationOf situation ⌝ }
     ensures low { λ r. ⌜ (1 ≤ r .concrete) × (1 ≤ r .steel) ⌝ }
