@@ -48,7 +48,7 @@ static salwoerk_section section(void)
     return s;
 }
 
-/* Records that Check accepts, until one does not fit; how many there are, and their bytes. */
+/* Records that Check accepts with depths up to 10h, until one does not fit; how many there are, and their bytes. */
 static size_t fill(size_t *length)
 {
     size_t records = 0;
@@ -56,7 +56,8 @@ static size_t fill(size_t *length)
     for (;;) {
         salwoerk_section s = section();
         salwoerk_load l = { between(-200000, 2000000), between(-1000000000, 1000000000), between(-500000, 500000) };
-        if (salwoerk_check(s, l).refusal) continue;
+        salwoerk_report r = salwoerk_check(s, l);
+        if (r.refusal || salwoerk_is_beyond(s.height, r.u) || salwoerk_is_beyond(s.height, r.other_u)) continue;
         salwoerk_written w = salwoerk_write(s, l, input + *length, sizeof input - *length);
         if (w.refusal) return records;
         *length += w.length;

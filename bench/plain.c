@@ -1,13 +1,14 @@
 /* Find a depth and Check in plain C, as a C programmer would write them who wants them quick: the measure that the engine is held to.
  * The same tests in the same sequence, the same rule of halving without a division, r and q by that rule too, K from a table; the strut's
- * cotangent by a loop over its sixteen tenths.
+ * cotangent by a loop over its sixteen tenths; beyond 10h each depth in turn until one reaches N, since halving is wrong where the force may fall.
  * With -DSAME it is Check with r and q as the engine has them: a guess by one Halley step, tested by the definition, and halving where it fails.
  * Every number fits int64_t (the products are taken in an order in which they do), so __int128 is nowhere needed. */
 #include <stdbool.h>
 #include "bench.h"
 
-/* What the formulas use of the concrete and the steel: T, E, L, f, g and s of document 01, and CRd,c of 6.2.2 in hundredths, 12 or 15. */
-struct materials { int64_t t, e, l, f, g, s, crd; };
+/* What the formulas use of the concrete and the steel: T, E, L, f, g and s of document 01, D of ticket 11 (200,000 N/mm2 times the strain eps_c3 of
+ * Table 3.1), and CRd,c of 6.2.2 in hundredths, 12 or 15. */
+struct materials { int64_t t, e, d, l, f, g, s, crd; };
 
 /* What is divided by the partial factors, gamma_c in tenths and gamma_s in hundredths; CRd,c is 0.18 / gamma_c. The factors are constants where this
  * is called, so that the compiler leaves no division. alpha_cc, in hundredths, is in f and g, each of which is rounded down once. */
@@ -24,20 +25,20 @@ static inline void divide_by(int64_t gamma_c, int64_t gamma_s, const salwoerk_gr
 static inline int look_up(const salwoerk_grade *grade, struct materials *m)
 {
     switch (grade->fck) {
-    case 12: m->t = 16; m->e = 700; break;
-    case 16: m->t = 19; m->e = 700; break;
-    case 20: m->t = 22; m->e = 700; break;
-    case 25: m->t = 26; m->e = 700; break;
-    case 30: m->t = 29; m->e = 700; break;
-    case 35: m->t = 32; m->e = 700; break;
-    case 40: m->t = 35; m->e = 700; break;
-    case 45: m->t = 38; m->e = 700; break;
-    case 50: m->t = 41; m->e = 700; break;
-    case 55: m->t = 42; m->e = 620; break;
-    case 60: m->t = 44; m->e = 580; break;
-    case 70: m->t = 46; m->e = 540; break;
-    case 80: m->t = 48; m->e = 520; break;
-    case 90: m->t = 50; m->e = 520; break;
+    case 12: m->t = 16; m->e = 700; m->d = 350; break;
+    case 16: m->t = 19; m->e = 700; m->d = 350; break;
+    case 20: m->t = 22; m->e = 700; m->d = 350; break;
+    case 25: m->t = 26; m->e = 700; m->d = 350; break;
+    case 30: m->t = 29; m->e = 700; m->d = 350; break;
+    case 35: m->t = 32; m->e = 700; m->d = 350; break;
+    case 40: m->t = 35; m->e = 700; m->d = 350; break;
+    case 45: m->t = 38; m->e = 700; m->d = 350; break;
+    case 50: m->t = 41; m->e = 700; m->d = 350; break;
+    case 55: m->t = 42; m->e = 620; m->d = 360; break;
+    case 60: m->t = 44; m->e = 580; m->d = 380; break;
+    case 70: m->t = 46; m->e = 540; m->d = 400; break;
+    case 80: m->t = 48; m->e = 520; m->d = 440; break;
+    case 90: m->t = 50; m->e = 520; m->d = 460; break;
     default: return 3;
     }
     m->l = grade->fck <= 50 ? 64 : (370 - grade->fck) / 5;
@@ -76,19 +77,20 @@ static inline int64_t force(const salwoerk_layer *layers, size_t count, int64_t 
     return flb * u * u + 800 * sum;
 }
 
-/* 11 and 12 of the face that sees the layers so. */
+/* 11 of the face that sees the layers so. */
 static inline bool below_range(const salwoerk_layer *layers, size_t count, int64_t flb, const struct materials *m, int64_t n)
 {
     return force(layers, count, flb, m, 1) > n * 80000;
 }
 
-static inline bool above_range(const salwoerk_layer *layers, size_t count, int64_t flb, int64_t h, const struct materials *m, int64_t n)
+/* N is above the internal force of that face at 10h. */
+static inline bool above_section(const salwoerk_layer *layers, size_t count, int64_t flb, int64_t h, const struct materials *m, int64_t n)
 {
     return force(layers, count, flb, m, 10 * h) < n * 80000 * 10 * h;
 }
 
 /* The depth of that face, where neither is so. */
-static inline int64_t depth_for(const salwoerk_layer *layers, size_t count, int64_t flb, int64_t h, const struct materials *m, int64_t n)
+static inline int64_t depth_within(const salwoerk_layer *layers, size_t count, int64_t flb, int64_t h, const struct materials *m, int64_t n)
 {
     int64_t lo = 1, hi = 10 * h;
     while (lo < hi) {
@@ -96,6 +98,52 @@ static inline int64_t depth_for(const salwoerk_layer *layers, size_t count, int6
         if (force(layers, count, flb, m, mid) <= n * 80000 * mid) lo = mid; else hi = mid - 1;
     }
     return lo;
+}
+
+/* ---- beyond 10h: 6.1 turns the strain line about the point at (1 - D/E)h from the compressed face (ticket 11) */
+
+/* How deep the block is, in 800ths of a millimetre: at most h. */
+static inline int64_t block_beyond(int64_t h, const struct materials *m, int64_t u)
+{
+    return m->l * u < 800 * h ? m->l * u : 800 * h;
+}
+
+/* A layer's stress: rise / run, which is D E (u - 10d) over E u - 10 (E - D) h, or s/100 where it is held there. It is above 0, since no layer lies
+ * as deep as u. */
+struct strain_line { int64_t rise, run; bool held; };
+
+static inline struct strain_line line_beyond(int64_t d, int64_t h, const struct materials *m, int64_t u)
+{
+    int64_t rise = m->d * m->e * (u - 10 * d), run = m->e * u - 10 * (m->e - m->d) * h;
+    return (struct strain_line){ rise, run, 100 * rise >= m->s * run };
+}
+
+/* The internal force at u: each part's rounded down to a whole newton. */
+static inline int64_t force_beyond(const salwoerk_layer *layers, size_t count, int64_t b, int64_t h, const struct materials *m, int64_t u)
+{
+    int64_t sum = m->f * b * block_beyond(h, m, u) / 80000;
+    for (size_t i = 0; i < count; i++) {
+        struct strain_line line = line_beyond(layers[i].depth, h, m, u);
+        sum += line.held ? layers[i].area * m->s / 100 : layers[i].area * line.rise / line.run;
+    }
+    return sum;
+}
+
+/* The least depth beyond 10h whose force is at least N, by trying each; 0 where none up to 30h is, which is 12. */
+static int64_t depth_beyond(const salwoerk_layer *layers, size_t count, int64_t b, int64_t h, const struct materials *m, int64_t n)
+{
+    for (int64_t u = 10 * h + 1; u <= 30 * h; u++)
+        if (force_beyond(layers, count, b, h, m, u) >= n) return u;
+    return 0;
+}
+
+/* ---- both */
+
+/* The depth of a face whose depth 1 carries no more than N; 0 is 12. */
+static inline int64_t depth_for(const salwoerk_layer *layers, const salwoerk_section *s, int64_t flb, const struct materials *m, int64_t n)
+{
+    return above_section(layers, s->count, flb, s->height, m, n) ? depth_beyond(layers, s->count, s->width, s->height, m, n)
+        : depth_within(layers, s->count, flb, s->height, m, n);
 }
 
 static inline bool outside(int64_t x, int64_t limit) { return x < -limit || x > limit; }
@@ -108,14 +156,14 @@ __attribute__((unused)) static inline salwoerk_depth find_depth(const salwoerk_s
     if (k) return (salwoerk_depth){ (uint64_t)k, 0 };
     int64_t flb = m.f * m.l * s->width;
     if (below_range(s->layers, s->count, flb, &m, n)) return (salwoerk_depth){ 11, 0 };
-    if (above_range(s->layers, s->count, flb, s->height, &m, n)) return (salwoerk_depth){ 12, 0 };
-    return (salwoerk_depth){ 0, (uint64_t)depth_for(s->layers, s->count, flb, s->height, &m, n) };
+    int64_t u = depth_for(s->layers, s, flb, &m, n);
+    return (salwoerk_depth){ u ? 0 : 12, (uint64_t)u };
 }
 
 /* a / b rounded down, b above 0. */
 static inline int64_t floor_div(int64_t a, int64_t b) { return a / b - (a % b < 0); }
 
-static inline int64_t moment_resistance(const salwoerk_layer *layers, size_t count, int64_t b, int64_t h, const struct materials *m, int64_t u)
+static inline int64_t moment_within(const salwoerk_layer *layers, size_t count, int64_t b, int64_t h, const struct materials *m, int64_t u)
 {
     int64_t hi = m->s * u, lo = -hi, rise = 100 * m->e * u, e = 1000 * m->e, k = m->l * u;
     int64_t sum = m->f * b * (k * (800 * h - k)) / 128000000;
@@ -126,6 +174,25 @@ static inline int64_t moment_resistance(const salwoerk_layer *layers, size_t cou
         sum += floor_div(layers[i].area * x * (h - 2 * d), 200 * u);
     }
     return sum;
+}
+
+/* Each part's moment from its unrounded force, rounded down. The yielding and the free arm stand apart: over one denominator a layer's moment would
+ * not fit. */
+static int64_t moment_beyond(const salwoerk_layer *layers, size_t count, int64_t b, int64_t h, const struct materials *m, int64_t u)
+{
+    int64_t k = block_beyond(h, m, u), sum = m->f * b * (k * (800 * h - k)) / 128000000;
+    for (size_t i = 0; i < count; i++) {
+        struct strain_line line = line_beyond(layers[i].depth, h, m, u);
+        int64_t arm = h - 2 * (int64_t)layers[i].depth;
+        sum += line.held ? floor_div(layers[i].area * m->s * arm, 200) : floor_div(layers[i].area * line.rise * arm, 2 * line.run);
+    }
+    return sum;
+}
+
+static inline int64_t moment_resistance(const salwoerk_layer *layers, const salwoerk_section *s, const struct materials *m, int64_t u)
+{
+    return u > 10 * s->height ? moment_beyond(layers, s->count, s->width, s->height, m, u)
+        : moment_within(layers, s->count, s->width, s->height, m, u);
 }
 
 /* The greatest k up to most with a·k² or a·k³ at most y. */
@@ -229,10 +296,9 @@ static inline int64_t magnitude(int64_t x) { return x < 0 ? -x : x; }
 /* A face: the layers as it sees them, its depth under N and its resistance there. */
 struct face { const salwoerk_layer *layers; int64_t u, mrd; };
 
-static inline struct face face_under(const salwoerk_layer *layers, const salwoerk_section *s, int64_t flb, const struct materials *m, int64_t n)
+static inline struct face face_at(const salwoerk_layer *layers, const salwoerk_section *s, const struct materials *m, int64_t u)
 {
-    int64_t u = depth_for(layers, s->count, flb, s->height, m, n);
-    return (struct face){ layers, u, moment_resistance(layers, s->count, s->width, s->height, m, u) };
+    return (struct face){ layers, u, moment_resistance(layers, s, m, u) };
 }
 
 /* What is reported of the two faces: the one that M compresses is shown. */
@@ -281,6 +347,13 @@ static inline int link_refusal(const salwoerk_links *links, int64_t n)
     return links->area < 1 || links->area > 5000 ? 27 : links->spacing < 25 || links->spacing > 1000 ? 28 : n ? 29 : 0;
 }
 
+/* The layers as the bottom sees them. */
+static inline void turn_over(const salwoerk_section *s, salwoerk_layer *turned)
+{
+    for (size_t i = 0; i < s->count; i++)
+        turned[i] = (salwoerk_layer){ (uint32_t)s->height - s->layers[i].depth, s->layers[i].area };
+}
+
 /* At depth 1 every layer is at its limit, so that 11 is the same for both faces and is asked once; 12 is of either face. */
 static inline salwoerk_report check(const salwoerk_section *s, const salwoerk_load *l)
 {
@@ -292,12 +365,42 @@ static inline salwoerk_report check(const salwoerk_section *s, const salwoerk_lo
     if (k) return refused(k);
     int64_t flb = m.f * m.l * s->width;
     if (below_range(s->layers, s->count, flb, &m, l->n)) return refused(11);
-    if (above_range(s->layers, s->count, flb, s->height, &m, l->n)) return refused(12);
-    for (size_t i = 0; i < s->count; i++)
-        turned[i] = (salwoerk_layer){ (uint32_t)s->height - s->layers[i].depth, s->layers[i].area };
-    if (above_range(turned, s->count, flb, s->height, &m, l->n)) return refused(12);
-    struct face top = face_under(s->layers, s, flb, &m, l->n), bottom = face_under(turned, s, flb, &m, l->n);
+    int64_t top_u = depth_for(s->layers, s, flb, &m, l->n);
+    if (!top_u) return refused(12);
+    turn_over(s, turned);
+    int64_t bottom_u = depth_for(turned, s, flb, &m, l->n);
+    if (!bottom_u) return refused(12);
+    struct face top = face_at(s->layers, s, &m, top_u), bottom = face_at(turned, s, &m, bottom_u);
     return report(&top, &bottom, s, &m, l);
+}
+
+/* ---- for the loads that bench.c draws, of an accepted section: the face that M compresses */
+
+/* Its internal force at u, rounded down to whole newtons. */
+__attribute__((unused)) static int64_t newtons_at(const salwoerk_section *s, int64_t moment, int64_t u)
+{
+    struct materials m;
+    salwoerk_layer turned[16];
+    if (accept(s, &m)) return 0;
+    turn_over(s, turned);
+    const salwoerk_layer *layers = moment < 0 ? turned : s->layers;
+    return u > 10 * s->height ? force_beyond(layers, s->count, s->width, s->height, &m, u)
+        : floor_div(force(layers, s->count, m.f * m.l * s->width, &m, u), 80000 * u);
+}
+
+/* The greatest of its forces beyond 10h. */
+__attribute__((unused)) static int64_t most_beyond(const salwoerk_section *s, int64_t moment)
+{
+    struct materials m;
+    salwoerk_layer turned[16];
+    int64_t most = 0;
+    if (accept(s, &m)) return 0;
+    turn_over(s, turned);
+    for (int64_t u = 10 * s->height + 1; u <= 30 * s->height; u++) {
+        int64_t n = force_beyond(moment < 0 ? turned : s->layers, s->count, s->width, s->height, &m, u);
+        most = n > most ? n : most;
+    }
+    return most;
 }
 
 #ifdef SAME
@@ -309,4 +412,6 @@ salwoerk_depth plain_find_depth(const salwoerk_section *s, int64_t n) { return f
 salwoerk_depth plain_find_depth_by_value(salwoerk_section s, int64_t n) { return find_depth(&s, n); }
 salwoerk_report plain_check(const salwoerk_section *s, const salwoerk_load *l) { return check(s, l); }
 salwoerk_report plain_check_by_value(salwoerk_section s, salwoerk_load l) { return check(&s, &l); }
+int64_t plain_force(const salwoerk_section *s, int64_t moment, int64_t u) { return newtons_at(s, moment, u); }
+int64_t plain_most_beyond(const salwoerk_section *s, int64_t moment) { return most_beyond(s, moment); }
 #endif

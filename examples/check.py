@@ -1,5 +1,6 @@
 #!/usr/bin/env python3
-"""Section A of the scope document with links of 101 mm² every 200 mm, through the C library, by ctypes.
+"""Two sections through the C library, by ctypes: section A of the scope document with links of 101 mm² every 200 mm, and a precast
+column that N compresses over its full height.
 
     ./build-library
     python3 examples/check.py target/lib/libsalwoerk.so
@@ -37,15 +38,39 @@ class Report(ctypes.Structure):
                 ("verdicts", c_uint64 * 6)]
 
 
-def main():
-    check = ctypes.CDLL(sys.argv[1]).salwoerk_check
-    check.argtypes, check.restype = [Section, Load], Report
+def section_a():
     section = Section(width=300, height=500, grade=Grade(fck=30, fyk=500, situation=1, alpha_cc=100), count=1)
     section.layers[0] = Layer(depth=450, area=1500)
     section.links = Links(present=1, area=101, spacing=200)
-    report = check(section, Load(n=0, m=200_000_000, v=80_000))
+    return section
+
+
+def column():
+    """Three bars of 25 mm at each of two faces, 50 mm from it."""
+    section = Section(width=400, height=400, grade=Grade(fck=40, fyk=500, situation=1, alpha_cc=100), count=2)
+    section.layers[0], section.layers[1] = Layer(depth=50, area=1472), Layer(depth=350, area=1472)
+    return section
+
+
+def is_beyond(section, depth):
+    """The neutral axis lies below the section, as salwoerk_is_beyond of the header says it."""
+    return depth > 10 * section.height
+
+
+def show(section, report):
+    """The answer, and what is to be said of its depths."""
     print(report.refusal, report.u, report.mrd, report.other_u, report.other_mrd, report.vrd, report.dm, report.area,
           report.cotangent, report.link_resistance, *report.verdicts)
+    for name, depth in (("u", report.u), ("other_u", report.other_u)):
+        if is_beyond(section, depth):
+            print(f"{name}: compressed over the full height")
+
+
+def main():
+    check = ctypes.CDLL(sys.argv[1]).salwoerk_check
+    check.argtypes, check.restype = [Section, Load], Report
+    for section, load in ((section_a(), Load(n=0, m=200_000_000, v=80_000)), (column(), Load(n=4_500_000, m=120_000_000, v=20_000))):
+        show(section, check(section, load))
 
 
 if __name__ == "__main__":

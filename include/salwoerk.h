@@ -15,6 +15,9 @@
 #include <stdint.h>
 
 /* Of this header: MAJOR changes where a caller must be compiled again, MINOR where something is added, PATCH else.
+ * 5.1.0: a depth may be beyond 10h, up to 30h: that of a section compressed over its full height (clause 6.1, request 11), under an N that was refused by
+ * 12 before. 12 is now given where no depth up to 30h reaches N, and 13 begins above 30h. No struct and no call changed; but whoever takes every depth
+ * to lie in the section, to draw the neutral axis, say, now asks first: salwoerk_is_beyond, which is new.
  * 5.0.0: a grade holds the long-term factor alpha_cc after the situation; so whoever hands over or gets a section must be compiled again, and sets
  * grade.alpha_cc to 100 or to what the national annex has (SALWOERK_SECTION_INIT has 100). 0 is no factor: a section that begins as zeros, or a grade of
  * three numbers, { 30, 500, 1 }, has it, and is refused with 34 once its other fields are set. Bit 25 of a record is no longer refused: it is the factor,
@@ -28,7 +31,7 @@
  * 2.0.0: verdict one and refusal 12 of salwoerk_check look at both faces, and its answer holds other_u and other_mrd before vrd; so whoever calls
  * it must be compiled again. */
 #define SALWOERK_VERSION_MAJOR 5
-#define SALWOERK_VERSION_MINOR 0
+#define SALWOERK_VERSION_MINOR 1
 #define SALWOERK_VERSION_PATCH 0
 #define SALWOERK_VERSION (SALWOERK_VERSION_MAJOR * 10000 + SALWOERK_VERSION_MINOR * 100 + SALWOERK_VERSION_PATCH)
 
@@ -126,8 +129,8 @@ static inline const char *salwoerk_refusal_text(uint64_t refusal)
     case SALWOERK_BENDING_MOMENT: return "M beyond 1,000,000,000,000 N mm, either sign";
     case SALWOERK_SHEAR_FORCE: return "V beyond 500,000,000 N, either sign";
     case SALWOERK_BELOW_RANGE: return "N below the internal force at depth 1";
-    case SALWOERK_ABOVE_RANGE: return "N above the internal force at depth 10h, in Check of either face";
-    case SALWOERK_DEPTH: return "depth not 1 to 10h tenths of a millimetre";
+    case SALWOERK_ABOVE_RANGE: return "N above the internal force at every depth up to 30h, in Check of either face";
+    case SALWOERK_DEPTH: return "depth not 1 to 30h tenths of a millimetre";
     case SALWOERK_NO_MAP: return "fewer than 4 bytes";
     case SALWOERK_UNKNOWN_BIT: return "one of bits 26 to 31 of the map stands";
     case SALWOERK_CUT_RECORD: return "fewer bytes than the map calls for";
@@ -186,33 +189,56 @@ static inline const char *salwoerk_verdict_question(size_t place)
     return place < SALWOERK_VERDICTS ? questions[place] : "";
 }
 
+/* ---- depths */
+
+/* A depth is that of the neutral axis in tenths of a millimetre from the compressed face. With the height h in mm it is of one of two kinds.
+ *
+ * 1 to 10h: the axis lies in the section. Clause 6.1 holds the strain at the compressed face, and the depth found is the greatest at which the
+ * internal force is at most N. The accuracy statement of the scope document speaks of these depths only.
+ *
+ * 10h + 1 to 30h: the section is compressed over its full height, as a column is under a large N. Clause 6.1 holds the strain at the point
+ * (1 - eps_c3/eps_cu3)h from the compressed face instead (point C of Figure 6.1), and each part's force is rounded down to a whole newton. The force
+ * need not rise with the depth here: for N above the force at 10h the depth found is the least beyond 10h whose force is at least N. */
+
+/* 1 for a depth of the second kind; 0 for one of the first, and for the 0 of a refused call. As in salwoerk_is_beyond(section.height, report.u). */
+static inline int salwoerk_is_beyond(int64_t height, uint64_t depth)
+{
+    return depth > 10 * (uint64_t)height;
+}
+
 /* ---- the calls */
 
-/* Find a depth: the neutral axis in tenths of a millimetre from the top, which is compressed; links are not looked at. Refusals: section
- * tests, 8, 11 12. */
-typedef struct { uint64_t refusal, depth; } salwoerk_depth;
+/* Find a depth: the neutral axis in tenths of a millimetre from the top, which is compressed; above 10h the section is compressed over its full
+ * height. Links are not looked at. Refusals: section tests, 8, 11 12; 12 where no depth up to 30h reaches N. */
+typedef struct {
+    uint64_t refusal;
+    uint64_t depth; /* 1 to 30h, of either kind; 0 where refused */
+} salwoerk_depth;
 salwoerk_depth salwoerk_find_depth(salwoerk_section section, int64_t n);
 
-/* Moment at a depth: the moment resistance in N mm with the top compressed; it may be negative. Links are not looked at.
+/* Moment at a depth of either kind, 1 to 30h: the moment resistance in N mm with the top compressed; it may be negative. Links are not looked at.
  * Refusals: section tests, 13. */
 typedef struct { uint64_t refusal; int64_t moment; } salwoerk_moment;
 salwoerk_moment salwoerk_moment_at(salwoerk_section section, uint64_t depth);
 
-/* Check. Refusals: section tests, load tests, link tests, 11 12; here 12 is given where N is above the internal force at depth 10h of either face,
- * and 11 is the same for both. u in tenths of a millimetre and mrd in N mm are of the face that M compresses, the top for M 0; other_u and other_mrd
- * are of the other face, with that face compressed and the depth measured from it. A resistance may be negative. vrd in newtons (without links), dm
- * in mm (mean depth of the tension layers) and area in mm2 (As) are of the face that M compresses. So is what the links carry: link_resistance in
- * newtons, and the strut's cotangent in tenths, 10 to 25, at which it is greatest, the smallest on a tie.
+/* Check. Refusals: section tests, load tests, link tests, 11 12; here 12 is given where, for either face, no depth up to 30h reaches N, and 11 is the
+ * same for both. u in tenths of a millimetre and mrd in N mm are of the face that M compresses, the top for M 0; other_u and other_mrd are of the other
+ * face, with that face compressed and the depth measured from it. A resistance may be negative. Each depth is of either kind for itself, and its
+ * resistance with it: under one N a face may be beyond 10h and the other not. vrd in newtons (without links), dm in mm (mean depth of the tension
+ * layers) and area in mm2 (As) are of the face that M compresses. So is what the links carry: link_resistance in newtons, and the strut's cotangent
+ * in tenths, 10 to 25, at which it is greatest, the smallest on a tie.
  *
  * A verdict is one of enum salwoerk_verdict, in the sequence of salwoerk_verdict_clause. The first passes where M is at most the resistance with the
  * top compressed and at least minus that with the bottom compressed: -other_mrd <= M <= mrd for M at least 0, -mrd <= M <= other_mrd for M below 0.
  * There are sections that no M suits. The third asks whether V is carried without links, present or not. The sixth passes where |V| is at most
- * link_resistance, the spacing at most 0.75 dm and area/(spacing b) of the links at least 0.08 sqrt(fck)/fyk; without links, or without a tension
- * layer, it is 2, and cotangent and link_resistance are 0. */
+ * link_resistance, the spacing at most 0.75 dm and area/(spacing b) of the links at least 0.08 sqrt(fck)/fyk; without links it is 2, and cotangent and
+ * link_resistance are 0. Without a tension layer, and beyond 10h no layer is in tension, vrd, dm, area, cotangent and link_resistance are 0 and the
+ * second, third, fourth and sixth verdict are 2. */
 typedef struct {
-    uint64_t refusal, u;
+    uint64_t refusal;
+    uint64_t u; /* 1 to 30h, of either kind */
     int64_t mrd;
-    uint64_t other_u;
+    uint64_t other_u; /* likewise */
     int64_t other_mrd;
     uint64_t vrd, dm, area, cotangent, link_resistance;
     uint64_t verdicts[SALWOERK_VERDICTS];

@@ -6,6 +6,8 @@
 PROGRAM is the check list program: records on standard input, the list on
 standard output. LIB.so is the engine as a shared object; without --library
 that part is left out, and what it assumes stands at the top of library.py.
+Beside the fixed records there are N random ones and as many columns, most of
+them with a depth beyond 10h (02, request 11).
 
 Every difference is printed with its record in hexadecimal and both answers.
 The last line is 'N passed, M failed'; the exit status is 1 on a failure.
@@ -199,7 +201,7 @@ def arguments():
 def main():
     """Compare, print what was met, and count."""
     given = arguments()
-    print(f"seed {given.seed}, {given.records} random records")
+    print(f"seed {given.seed}, {given.records} random records and as many columns")
     rng = random.Random(given.seed)
     tally = Tally()
     samples = list(sampling.random_samples(rng, given.records))

@@ -119,7 +119,8 @@ def link_runs():
             (0, 0, 27), (0, 200, 27), (1, 25, 0), (101, 338, 0), (338, 101, 0), (5_000, 1_000, 0), (5_001, 200, 27),
             (5_001, 24, 27), (U32_MAX, 200, 27), (101, 0, 28), (101, 24, 28), (101, 1_001, 28), (101, U32_MAX, 28)):
         yield Run(f"links {area}/{spacing}", with_links(area, spacing) + EXAMPLE, (refusal, 0))
-    for n, refusal in ((-1, 29), (0, 0), (1, 29), (-651_691, 29), (2_505_001, 29), (500_000_001, 8), (I64_MAX, 8)):
+    for n, refusal in ((-1, 29), (0, 0), (1, 29), (-651_691, 29), (2_505_001, 29), (3_441_001, 29), (500_000_001, 8),
+                       (I64_MAX, 8)):
         yield Run(f"links, N {n}", with_links(101, 200, n=n) + LINKED_EXAMPLE, (refusal, 0))
     yield Run("10 before 27", with_links(0, 0, v=500_000_001) + EXAMPLE, (10, 0))
     yield Run("27 before 29", with_links(0, 200, n=1) + EXAMPLE, (27, 0))

@@ -59,7 +59,7 @@ TAKES(salwoerk_written, 16);
 LIES(salwoerk_written, refusal, 0, 8);
 LIES(salwoerk_written, length, 8, 8);
 
-_Static_assert(SALWOERK_VERSION == 50000, "5.0.0");
+_Static_assert(SALWOERK_VERSION == 50100, "5.1.0");
 _Static_assert(SALWOERK_RECORD_ROOM == 212, "a map, seven numbers, the links, sixteen layers, the situation and alpha_cc");
 _Static_assert(SALWOERK_RECOMMENDED_ALPHA_CC == 100, "the recommended value of 3.1.6(1) is 1.0");
 
@@ -249,8 +249,6 @@ static void answers(void)
     salwoerk_load load = { 0, 200000000, 80000 }, over = { 0, 257986052, 86851 };
     salwoerk_depth depth = salwoerk_find_depth(section_a(), 0);
     require("Find a depth", depth.refusal == 0 && depth.depth == 1358);
-    depth = salwoerk_find_depth(section_a(), 2505001);
-    require("Find a depth, 12", depth.refusal == SALWOERK_ABOVE_RANGE && depth.depth == 0);
     salwoerk_moment moment = salwoerk_moment_at(section_a(), 1358);
     require("Moment at a depth", moment.refusal == 0 && moment.moment == 257986051);
     moment = salwoerk_moment_at(section_a(), 0);
@@ -290,10 +288,146 @@ static void both_faces(void)
     load.m = -1;
     salwoerk_report turned = salwoerk_check(section_a(), load);
     require("the bottom shown, the top other", turned.u == 419 && turned.mrd == 6312569 && turned.other_u == 1358 && turned.other_mrd == 257986051);
-    load.n = 2505001; /* the bottom reaches it, the top does not */
+    load.n = 3441001; /* the bottom reaches it, the top does not */
     turned = salwoerk_check(section_a(), load);
     require("12 of the other face, and zeros", turned.refusal == SALWOERK_ABOVE_RANGE && !turned.u && !turned.mrd && !turned.other_u
         && !turned.other_mrd);
+}
+
+/* Section A with its layer at 50: A turned over by hand. */
+static salwoerk_section a_turned(void)
+{
+    salwoerk_section a = section_a();
+    a.layers[0].depth = 50;
+    return a;
+}
+
+/* Find a depth up to 10h, beyond, and above every force: that of A rises up to 30h, that of A turned over is greatest at 6,250. */
+static void depths_beyond(void)
+{
+    static const struct { int turned; int64_t n; uint64_t refusal, depth; int beyond; } cases[] = {
+        { 0, 2505000, SALWOERK_ACCEPTED, 5000, 0 }, { 0, 2505001, SALWOERK_ACCEPTED, 5001, 1 }, { 0, 2505647, SALWOERK_ACCEPTED, 5001, 1 },
+        { 0, 2505648, SALWOERK_ACCEPTED, 5002, 1 }, { 0, 3441000, SALWOERK_ACCEPTED, 15000, 1 }, { 0, 3441001, SALWOERK_ABOVE_RANGE, 0, 0 },
+        { 0, 500000000, SALWOERK_ABOVE_RANGE, 0, 0 }, { 1, 3052170, SALWOERK_ACCEPTED, 5000, 0 }, { 1, 3052171, SALWOERK_ACCEPTED, 5001, 1 },
+        { 1, 3609001, SALWOERK_ACCEPTED, 6161, 1 }, /* more than the force at 30h */
+        { 1, 3652170, SALWOERK_ACCEPTED, 6250, 1 }, { 1, 3652171, SALWOERK_ABOVE_RANGE, 0, 0 },
+    };
+    for (size_t i = 0; i < sizeof cases / sizeof *cases; i++) {
+        salwoerk_section a = cases[i].turned ? a_turned() : section_a();
+        salwoerk_depth depth = salwoerk_find_depth(a, cases[i].n);
+        require("Find a depth beyond 10h", depth.refusal == cases[i].refusal && depth.depth == cases[i].depth);
+        require("the kind of depth", salwoerk_is_beyond(a.height, depth.depth) == cases[i].beyond);
+    }
+}
+
+/* Moment at a depth at both ends of 1 to 10h and of 10h + 1 to 30h. */
+static void moments_beyond(void)
+{
+    static const struct { int turned; uint64_t depth, refusal; int64_t moment; } cases[] = {
+        { 0, 5000, SALWOERK_ACCEPTED, 99000000 }, { 0, 5001, SALWOERK_ACCEPTED, 98894393 }, { 0, 15000, SALWOERK_ACCEPTED, -88200000 },
+        { 0, 15001, SALWOERK_DEPTH, 0 }, { 0, UINT64_MAX, SALWOERK_DEPTH, 0 }, { 1, 5000, SALWOERK_ACCEPTED, 250434000 },
+        { 1, 5001, SALWOERK_ACCEPTED, 250361980 }, { 1, 5811, SALWOERK_ACCEPTED, 179413756 }, { 1, 6250, SALWOERK_ACCEPTED, 130434000 },
+        { 1, 15000, SALWOERK_ACCEPTED, 121800000 }, { 1, 15001, SALWOERK_DEPTH, 0 },
+    };
+    for (size_t i = 0; i < sizeof cases / sizeof *cases; i++) {
+        salwoerk_moment moment = salwoerk_moment_at(cases[i].turned ? a_turned() : section_a(), cases[i].depth);
+        require("Moment at a depth beyond 10h", moment.refusal == cases[i].refusal && moment.moment == cases[i].moment);
+    }
+}
+
+/* The moment of A at 30h, where the block fills the section: the layer's alone, by the eps_c3 and eps_cu3 of each class. */
+static void classes_beyond(void)
+{
+    static const struct { int64_t fck, moment; } classes[] = {
+        { 12, -88200000 }, { 16, -88200000 }, { 20, -88200000 }, { 25, -88200000 }, { 30, -88200000 }, { 35, -88200000 }, { 40, -88200000 },
+        { 45, -88200000 }, { 50, -88200000 }, { 55, -87885000 }, { 60, -90163637 }, { 70, -91945946 }, { 80, -97394595 }, { 90, -100464000 },
+    };
+    for (size_t i = 0; i < sizeof classes / sizeof *classes; i++) {
+        salwoerk_section a = section_a();
+        a.grade.fck = classes[i].fck;
+        require("the strains of a class", salwoerk_moment_at(a, 15000).moment == classes[i].moment);
+    }
+}
+
+/* No layer is in tension: what is of the tension layers is 0 and 2. */
+static int is_pressed(const salwoerk_report *r)
+{
+    return !r->vrd && !r->dm && !r->area && !r->cotangent && !r->link_resistance && r->verdicts[1] == SALWOERK_NOT_REACHED
+        && r->verdicts[2] == SALWOERK_NOT_REACHED && r->verdicts[3] == SALWOERK_NOT_REACHED && r->verdicts[4] == SALWOERK_PASS
+        && r->verdicts[5] == SALWOERK_NOT_REACHED;
+}
+
+/* Check of A where both faces are beyond 10h: it stands for M from -179,413,756 to -88,200,000 only, and above this N for none. */
+static void check_beyond(void)
+{
+    static const struct { int64_t m; uint64_t verdict; } ends[] = {
+        { 0, SALWOERK_FAIL }, { 1, SALWOERK_FAIL }, { -1, SALWOERK_FAIL }, { -88199999, SALWOERK_FAIL }, { -88200000, SALWOERK_PASS },
+        { -179413756, SALWOERK_PASS }, { -179413757, SALWOERK_FAIL },
+    };
+    salwoerk_load load = { 3441000, 0, 1 };
+    for (size_t i = 0; i < sizeof ends / sizeof *ends; i++) {
+        load.m = ends[i].m;
+        salwoerk_report r = salwoerk_check(section_a(), load);
+        require("both faces beyond 10h", r.refusal == 0 && (load.m < 0
+            ? r.u == 5811 && r.mrd == 179413756 && r.other_u == 15000 && r.other_mrd == -88200000
+            : r.u == 15000 && r.mrd == -88200000 && r.other_u == 5811 && r.other_mrd == 179413756));
+        require("verdict one beyond 10h", r.verdicts[0] == ends[i].verdict);
+        require("no tension layer beyond 10h", is_pressed(&r));
+    }
+}
+
+/* 12 of Check where only the bottom of A, or only the top of A turned over, reaches N. */
+static void above_one_face(void)
+{
+    salwoerk_load load = { 3441001, 0, 0 };
+    for (load.m = -1; load.m <= 1; load.m++)
+        for (int turned = 0; turned < 2; turned++) {
+            salwoerk_report r = salwoerk_check(turned ? a_turned() : section_a(), load);
+            require("12 for every sign of M, and zeros", r.refusal == SALWOERK_ABOVE_RANGE && !r.u && !r.mrd && !r.other_u && !r.other_mrd);
+            for (size_t i = 0; i < SALWOERK_VERDICTS; i++) require("and verdicts 2", r.verdicts[i] == SALWOERK_NOT_REACHED);
+        }
+}
+
+/* A symmetric column: from 10,344 on its layers would carry the same together at every depth, were not the force of each rounded down. */
+static void rounded_parts(void)
+{
+    salwoerk_section s = section_a();
+    s.count = 2;
+    s.layers[0].depth = 60;
+    s.layers[1].depth = 440;
+    s.layers[0].area = s.layers[1].area = 1473;
+    require("one newton less is reached where they begin", salwoerk_find_depth(s, 4031099).depth == 10344);
+    require("all of it where both are whole", salwoerk_find_depth(s, 4031100).depth == 10480);
+    require("and no more", salwoerk_find_depth(s, 4031101).refusal == SALWOERK_ABOVE_RANGE);
+    salwoerk_load load = { 4031100, 0, 0 };
+    salwoerk_report r = salwoerk_check(s, load);
+    require("both faces alike", r.refusal == 0 && r.u == 10480 && r.mrd == 46645000 && r.other_u == 10480 && r.other_mrd == 46645000
+        && is_pressed(&r));
+}
+
+/* Check of A where the top is beyond 10h and the bottom is not: only what is shown of the bottom has a tension layer. */
+static void one_face_beyond(void)
+{
+    salwoerk_load load = { 2505000, 0, 0 };
+    salwoerk_report r = salwoerk_check(section_a(), load);
+    require("the top at 10h", r.refusal == 0 && r.u == 5000 && r.mrd == 99000000 && r.other_u == 3860 && r.other_mrd == 307561680 && is_pressed(&r));
+    load.n = 2505001;
+    r = salwoerk_check(section_a(), load);
+    require("the top beyond", r.refusal == 0 && r.u == 5001 && r.mrd == 98894393 && r.other_u == 3860 && r.other_mrd == 307561680 && is_pressed(&r));
+    load.m = -1;
+    r = salwoerk_check(section_a(), load);
+    require("the bottom shown", r.refusal == 0 && r.u == 3860 && r.mrd == 307561680 && r.other_u == 5001 && r.other_mrd == 98894393);
+    require("kinds of depths", !salwoerk_is_beyond(500, r.u) && salwoerk_is_beyond(500, r.other_u));
+}
+
+/* Also of no accepted section: a depth of 0 is never beyond. */
+static void kinds_of_depths(void)
+{
+    static const int64_t heights[] = { 50, 500, 2000, 0, -1, INT64_MIN, INT64_MAX };
+    for (size_t i = 0; i < sizeof heights / sizeof *heights; i++) require("0 is no depth beyond", salwoerk_is_beyond(heights[i], 0) == 0);
+    require("10h is not beyond", salwoerk_is_beyond(50, 500) == 0 && salwoerk_is_beyond(2000, 20000) == 0);
+    require("10h + 1 is", salwoerk_is_beyond(50, 501) == 1 && salwoerk_is_beyond(2000, 20001) == 1);
+    require("30h is", salwoerk_is_beyond(50, 1500) == 1 && salwoerk_is_beyond(2000, 60000) == 1);
 }
 
 /* The initializer is persistent, has the recommended alpha_cc, and is 0 in every other field. */
@@ -515,6 +649,23 @@ static void grades_in_a_list(void)
     require("situation and alpha_cc in a list", w.refusal == 0 && w.length == sizeof lines - 1 && !memcmp(text, lines, sizeof lines - 1));
 }
 
+/* Depths at 10h and beyond in a list, and 12. */
+static void columns_in_a_list(void)
+{
+    static const char lines[] = "1 0 5000 99000000 0 0 0 0 2 2 2 0 2\n2 0 5001 98894393 0 0 0 0 2 2 2 0 2\n3 0 15000 -88200000 0 0 0 1 2 2 2 0 2\n"
+        "4 12 0 0 0 0 0 2 2 2 2 2 2\n";
+    static const int64_t forces[] = { 2505000, 2505001, 3441000, 3441001 };
+    uint8_t records[4 * SALWOERK_RECORD_ROOM], text[SALWOERK_LIST_ROOM(sizeof records)];
+    salwoerk_section a = section_a();
+    size_t length = 0;
+    for (size_t i = 0; i < sizeof forces / sizeof *forces; i++) {
+        salwoerk_load load = { forces[i], 1, 0 };
+        length += record_of(0x0000013F, &a, load, records + length);
+    }
+    salwoerk_written w = salwoerk_list(records, length, text, sizeof text);
+    require("columns in a list", w.refusal == 0 && w.length == sizeof lines - 1 && !memcmp(text, lines, sizeof lines - 1));
+}
+
 /* Each number has a text of its own, and what is none has the text of none. */
 static void texts(void)
 {
@@ -539,6 +690,8 @@ static void texts(void)
     require("links with N are refused by no clause", !*salwoerk_refusal_clause(SALWOERK_LINKS_WITH_AXIAL_FORCE));
     require("bits 7, 24 and 25 are no unknown bits",
         !strcmp(salwoerk_refusal_text(SALWOERK_UNKNOWN_BIT), "one of bits 26 to 31 of the map stands"));
+    require("12 and 13 speak of depths up to 30h", strstr(salwoerk_refusal_text(SALWOERK_ABOVE_RANGE), " up to 30h")
+        && strstr(salwoerk_refusal_text(SALWOERK_DEPTH), " 1 to 30h"));
     require("verdicts in words", !strcmp(salwoerk_verdict_text(0), "pass") && !strcmp(salwoerk_verdict_text(1), "fail")
         && !strcmp(salwoerk_verdict_text(2), "not reached"));
 }
@@ -549,6 +702,14 @@ int main(void)
     refused_reading();
     answers();
     both_faces();
+    depths_beyond();
+    moments_beyond();
+    classes_beyond();
+    check_beyond();
+    above_one_face();
+    rounded_parts();
+    one_face_beyond();
+    kinds_of_depths();
     initializer();
     accidental();
     reduced();
@@ -560,6 +721,7 @@ int main(void)
     refused_links();
     list();
     grades_in_a_list();
+    columns_in_a_list();
     texts();
     printf("%d passed, %d failed\n", passed, failed);
     return failed != 0;

@@ -10,7 +10,7 @@ import ctypes
 from ctypes import POINTER, c_int64, c_size_t, c_uint8, c_uint32, c_uint64
 
 import second
-from met import CASES, case_of
+from met import CASES, case_of, halved_depth
 from samples import SIXTEEN, U32_MAX, Sample, UNDER_LOAD, all_samples, record, with_layer
 from second import LINK_TESTS, NO_LINKS, Layer, Links, Load, Section
 from tally import check_accuracy, check_accuracy_of_faces, check_stated
@@ -187,9 +187,13 @@ def count_samples():
 
 
 def depths_for_moment(rng, section):
-    """u at and beyond both ends of its range, and inside it."""
-    last = max(10 * section.height, 10) if 0 < section.height < 10**6 else 5_000
-    return 0, 1, last, last + 1, rng.randint(1, last), 2**63, 2**64 - 1
+    """u inside its range, at both its ends and at 10h, then u of refusal 13, by their names; of a height of 500
+    where the section's own is far out of range."""
+    height = section.height if 0 < section.height < 10**6 else 500
+    at_10h, at_30h = 10 * height, 30 * height
+    inside = {"1": 1, "a depth up to 10h": rng.randint(1, at_10h), "10h": at_10h, "10h + 1": at_10h + 1,
+              "a depth beyond 10h": rng.randint(at_10h + 1, at_30h), "30h": at_30h}
+    return inside, {"0": 0, "30h + 1": at_30h + 1, "2^63": 2**63, "2^64 - 1": 2**64 - 1}
 
 
 # --- the comparison ---------------------------------------------------------
@@ -213,27 +217,48 @@ def note_case(tally, call, section, refusal):
         tally.coverage.note_call(f"{call} has refusal {number}", refusal == number)
 
 
+def note_beyond(tally, section, n, refusal, u):
+    """Count what Find a depth meets beyond 10h (02, request 11)."""
+    beyond = refusal == 0 and u > second.greatest_depth(section)
+    for case in CASES:
+        tally.coverage.note_call(f"Find a depth answers beyond 10h in {case}", beyond and case == case_of(section))
+    for name, met in (
+            ("Check has 12 of the bottom", lambda: second.above_range(second.turned_over(section), n)),
+            ("the force at 30h is below N, and not by rounding",
+             lambda: second.force_beyond(section, second.last_depth(section)) + section.count < n),
+            ("halving would find another depth", lambda: halved_depth(section, n) != u)):
+        tally.coverage.note_call(f"Find a depth answers beyond 10h where {name}", beyond and met())
+    tally.coverage.note_call("Find a depth has 12 from the force at 10h on",
+                             refusal == 12 and second.reached_by_10h(second.upright(section), n - 1))
+
+
 def compare_depth(tally, rng, engine, sample):
-    """Find a depth, and demand 3 with what Moment at a depth answers for it."""
+    """Find a depth, what Moment at a depth answers for it, and demand 3 with that."""
     section, load = sample.section, sample.load
-    answer = engine.find_depth(section, load.n)
-    tally.compare(f"Find a depth, {sample.label}", hexadecimal(section, load),
-                  second.find_depth(section, load.n), answer)
+    expected, answer = second.find_depth(section, load.n), engine.find_depth(section, load.n)
+    tally.compare(f"Find a depth, {sample.label}", hexadecimal(section, load), expected, answer)
     refusal, u = answer
     note_case(tally, "Find a depth", section, refusal)
     tally.coverage.note_call("Find a depth answers where Check refuses the links",
                              refusal == 0 and links_refused(section, load) != 0)
+    note_beyond(tally, section, load.n, *expected)
     if refusal == 0:
-        _, moment = engine.moment(section, u)
-        check_accuracy(tally, rng, section, load, u, moment, second.upright(section))
+        moment = engine.moment(section, u)
+        tally.compare(f"Moment at the depth found, {sample.label}", hexadecimal(section, load),
+                      second.moment_at_depth(section, u), moment)
+        check_accuracy(tally, rng, section, load, u, moment[1], second.upright(section))
 
 
 def compare_moment(tally, rng, engine, sample):
     """Moment at a depth, refusal 13 included."""
-    for u in depths_for_moment(rng, sample.section):
+    inside, outside = depths_for_moment(rng, sample.section)
+    for name, u in {**inside, **outside}.items():
         expected = second.moment_at_depth(sample.section, u)
         tally.coverage.refusals[expected[0]] += expected[0] == 13
         note_case(tally, "Moment at a depth", sample.section, expected[0])
+        tally.coverage.note_call(f"Moment at a depth answers at {name}" if name in inside
+                                 else f"Moment at a depth has refusal 13 at {name}",
+                                 expected[0] == (0 if name in inside else 13))
         tally.coverage.note_call("Moment at a depth answers where Check refuses the links",
                                  expected[0] == 0 and links_refused(sample.section, sample.load) != 0)
         tally.compare(f"Moment at depth {u}, {sample.label}",

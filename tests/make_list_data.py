@@ -3,19 +3,19 @@
 
 The input is the 60-byte example of document 01, "The list", then records
 that meet every refusal after which a list goes on, with and without the links
-of request 3 of 02, in both situations of request 8 and with αcc of request 10,
-and a 22 at the end.
+of request 3 of 02, in both situations of request 8, with αcc of request 10 and
+with depths beyond 10h of request 11, and a 22 at the end.
 Both files come from the second implementation (second.py), which is written
 from the paper, and not from the program.
 """
 
 from pathlib import Path
 
-from second import (ACCIDENTAL_A, ACCIDENTAL_EXAMPLE, ACCIDENTAL_TIE, BOTH_A, BOTH_EXAMPLE, BOTH_TIE, EXAMPLE,
-                    EXAMPLE_LIST, FAIL, HEADER, LAYER_BITS, LINKED_EXAMPLE, MANDATORY_BITS, NO_LOAD,
-                    OPTIONAL_FIELDS, PASS, REDUCED_A, REDUCED_EXAMPLE, REDUCED_TIE, SECTION_A, SEQUENCES, TIE,
-                    UNREADABLE, Layer, Load, assemble, fields_written, layer_bytes, list_answers, list_text,
-                    section_of, signed_bytes, with_links)
+from second import (ACCIDENTAL_A, ACCIDENTAL_EXAMPLE, ACCIDENTAL_TIE, BEYOND_EXAMPLE, BOTH_A, BOTH_EXAMPLE,
+                    BOTH_TIE, COLUMN, EXAMPLE, EXAMPLE_LIST, FAIL, HEADER, LARGE, LAYER_BITS, LINKED_EXAMPLE,
+                    MANDATORY_BITS, MIXED, NO_LOAD, OPTIONAL_FIELDS, PASS, REDUCED_A, REDUCED_EXAMPLE, REDUCED_TIE,
+                    SECTION_A, SEQUENCES, SIXTEEN, SMALL, TIE, TURNED_A, UNREADABLE, Layer, Load, assemble,
+                    fields_written, layer_bytes, list_answers, list_text, section_of, signed_bytes, with_links)
 
 CRATE = Path(__file__).resolve().parent.parent / "crates" / "check_list"
 
@@ -137,8 +137,8 @@ def refused():
         linked(101, 200, Load(-651_691, 0, 0)),  # 29: before 11
         linked(0, 200, Load(0, 0, 500_000_001)),  # 10: before 27
         record(load=Load(-651_691, 0, 0)),     # 11
-        record(load=Load(2_505_001, 0, 0)),    # 12
-        record(load=Load(2_505_001, -1, 0)),   # 12: of the top, which M does not compress
+        record(load=Load(3_441_001, 0, 0)),    # 12
+        record(load=Load(3_441_001, -1, 0)),   # 12: of the top, which M does not compress
         without(MANDATORY_BITS[0]),            # 23
         bytes(4),                              # 23: no bit stands
     ]
@@ -173,7 +173,7 @@ def refused_line(number):
 
 
 def situations_with_line():
-    """The same for a present 1, for 32 and what stands beside it, and for 11 and 12 when accidental."""
+    """The same for a present 1, for 32 and what stands beside it, and for 11, 10h + 1 and 12 when accidental."""
     return [
         (with_present(SECTION_A, "situation"), "0 1358 257986051 86851 450 1500 0 0 0 0 0 2"),
         (record(situation=0), refused_line(32)),
@@ -184,7 +184,8 @@ def situations_with_line():
         (record(situation=3, count=0), refused_line(32)),  # before 5
         (linked(0, 200, section=SECTION_A._replace(situation=0)), refused_line(32)),  # before 27
         (record(ACCIDENTAL_A, Load(-749_401, 0, 0)), refused_line(11)),
-        (record(ACCIDENTAL_A, Load(3_105_001, 0, 0)), refused_line(12)),
+        (record(ACCIDENTAL_A, Load(3_105_001, 0, 0)), "0 5001 128876389 0 0 0 0 2 2 2 0 2"),
+        (record(ACCIDENTAL_A, Load(4_191_001, -1, 0)), refused_line(12)),
     ]
 
 
@@ -222,7 +223,7 @@ def reduced_with_line():
 
 
 def alphas_with_line():
-    """The same for a present 100, for 34 and what stands beside it, and for 11 and 12 with αcc 85."""
+    """The same for a present 100, for 34 and what stands beside it, and for 11, 10h + 1 and 12 with αcc 85."""
     return [
         (with_present(SECTION_A, "alpha_cc"), "0 1358 257986051 86851 450 1500 0 0 0 0 0 2"),
         (with_present(ACCIDENTAL_A, "alpha_cc"), "0 1250 300000000 108564 450 1500 0 0 0 0 0 2"),
@@ -236,14 +237,72 @@ def alphas_with_line():
         (record(load=Load(500_000_001, 0, 0), alpha_cc=79), refused_line(34)),  # before 8
         (linked(0, 200, section=SECTION_A._replace(alpha_cc=101)), refused_line(34)),  # before 27
         (record(REDUCED_A, Load(-651_763, 0, 0)), refused_line(11)),
-        (record(REDUCED_A, Load(2_145_001, 0, 0)), refused_line(12)),
+        (record(REDUCED_A, Load(2_145_001, 0, 0)), "0 5001 80905196 0 0 0 0 2 2 2 0 2"),
+        (record(REDUCED_A, Load(2_991_001, 0, 0)), refused_line(12)),
+    ]
+
+
+def beyond_with_line():
+    """Section A and the same turned over with depths beyond 10h and the line of each: 10h + 1, 30h, both ends of M."""
+    a = SECTION_A
+    return [
+        (BEYOND_EXAMPLE, "0 5001 98894393 0 0 0 0 2 2 2 0 2"),
+        (record(a, Load(2_505_001, -1, 0)), "0 3860 307561680 0 0 0 0 2 2 2 0 2"),  # the bottom up to 10h
+        (record(a, Load(2_505_001, 98_894_394, 0)), "0 5001 98894393 0 0 0 1 2 2 2 0 2"),
+        (record(a, Load(2_505_647, 0, 0)), "0 5001 98894393 0 0 0 0 2 2 2 0 2"),
+        (record(a, Load(2_505_648, 0, 0)), "0 5002 98788776 0 0 0 0 2 2 2 0 2"),
+        (record(a, Load(3_052_170, -1, 0)), "0 5000 250434000 0 0 0 1 2 2 2 0 2"),
+        (record(a, Load(3_052_171, -1, 0)), "0 5001 250361980 0 0 0 1 2 2 2 0 2"),
+        (record(a, Load(3_441_000, 0, 0)), "0 15000 -88200000 0 0 0 1 2 2 2 0 2"),
+        (record(a, Load(3_441_000, -1, 0)), "0 5811 179413756 0 0 0 1 2 2 2 0 2"),
+        (record(a, Load(3_441_000, -88_199_999, 1)), "0 5811 179413756 0 0 0 1 2 2 2 0 2"),
+        (record(a, Load(3_441_000, -88_200_000, 1)), "0 5811 179413756 0 0 0 0 2 2 2 0 2"),
+        (record(a, Load(3_441_000, -179_413_756, -1)), "0 5811 179413756 0 0 0 0 2 2 2 0 2"),
+        (record(a, Load(3_441_000, -179_413_757, -1)), "0 5811 179413756 0 0 0 1 2 2 2 0 2"),
+        (record(TURNED_A, Load(3_441_000, 88_200_000, 0)), "0 5811 179413756 0 0 0 0 2 2 2 0 2"),
+        (record(TURNED_A, Load(3_441_001, 88_200_000, 0)), refused_line(12)),  # of the bottom
+        (record(TURNED_A, Load(3_652_170, 130_434_000, 0)), refused_line(12)),  # the top alone reaches it
+        (record(TURNED_A, Load(3_652_171, 130_434_000, 0)), refused_line(12)),  # and this neither
+        (record(TURNED_A, Load(3_652_170, -1, 0)), refused_line(12)),
+    ]
+
+
+def columns_with_line():
+    """Other sections with depths beyond 10h: both faces, sizes, classes, situations, αcc, a layer in tension."""
+    of_class = ((55, 5_801_925, -87_885_000), (60, 6_150_818, -90_163_637), (70, 6_759_729, -91_945_946),
+                (80, 7_286_472, -97_394_595), (90, 7_702_320, -100_464_000))
+    high = [(record(load=Load(n, 0, 0), fck=fck), f"0 15000 {mrd} 0 0 0 1 2 2 2 0 2") for fck, n, mrd in of_class]
+    return high + [
+        (record(load=Load(7_702_321, 0, 0), fck=90), refused_line(12)),
+        (record(COLUMN, Load(1_927_008, 0, 0)), "0 2999 63232912 0 0 0 0 2 2 2 0 2"),
+        (record(COLUMN, Load(1_927_009, 0, 0)), "0 3001 63124534 0 0 0 0 2 2 2 0 2"),
+        (record(COLUMN, Load(2_380_299, 10_646_644, 0)), "0 5629 10646644 0 0 0 0 2 2 2 0 2"),
+        (record(COLUMN, Load(2_380_300, -10_048_000, 0)), "0 5875 10048000 0 0 0 0 2 2 2 0 2"),
+        (record(COLUMN, Load(2_380_300, 10_048_001, 0)), "0 5875 10048000 0 0 0 1 2 2 2 0 2"),
+        (record(COLUMN, Load(2_380_301, 0, 0)), refused_line(12)),
+        (record(MIXED, Load(4_500_000, 402_077_838, 16_572)), "0 2203 473019290 16572 450 100 0 1 0 0 1 2"),
+        (record(MIXED, Load(4_500_000, -402_077_838, 0)), "0 5035 -402077838 0 0 0 1 2 2 2 1 2"),
+        (record(SMALL, Load(135_400, -678_553, 0)), "0 619 678553 0 0 0 0 2 2 2 1 2"),
+        (record(SMALL, Load(135_401, 0, 0)), refused_line(12)),
+        (record(LARGE, Load(319_573_328, 23_026_986_664, 0)), "0 60000 23026986664 0 0 0 0 2 2 2 1 2"),
+        (record(LARGE, Load(319_573_329, 0, 0)), refused_line(12)),
+        (record(SIXTEEN, Load(7_146_330, 0, 0)), "0 6999 582466659 0 0 0 0 2 2 2 0 2"),
+        (record(SIXTEEN, Load(7_146_331, 0, 0)), "0 7001 582109409 0 0 0 0 2 2 2 0 2"),
+        (record(SIXTEEN, Load(8_368_640, -1, 0)), "0 21000 -118540800 0 0 0 1 2 2 2 0 2"),
+        (record(ACCIDENTAL_A, Load(4_191_000, 0, 0)), "0 15000 -88200000 0 0 0 1 2 2 2 0 2"),
+        (record(ACCIDENTAL_A, Load(4_191_000, -220_884_600, 0)), "0 5735 220884600 0 0 0 0 2 2 2 0 2"),
+        (record(REDUCED_A, Load(2_991_000, -178_805_843, 0)), "0 5733 178805843 0 0 0 0 2 2 2 0 2"),
+        (record(BOTH_A, Load(2_655_001, 0, 0)), "0 5001 106389892 0 0 0 0 2 2 2 0 2"),
+        (record(BOTH_A, Load(3_628_500, -219_670_590, 0)), "0 5645 219670590 0 0 0 0 2 2 2 0 2"),
+        (record(BOTH_A, Load(3_628_501, -1, 0)), refused_line(12)),
     ]
 
 
 def main():
     """Write the two files, after a look at what they must have."""
     verdicts = with_link_verdict()
-    lines = accidental_with_line() + situations_with_line() + reduced_with_line() + alphas_with_line()
+    lines = (accidental_with_line() + situations_with_line() + reduced_with_line() + alphas_with_line()
+             + beyond_with_line() + columns_with_line())
     data = b"".join([EXAMPLE, *accepted(), *(piece for piece, _ in verdicts), *refused(),
                      *(piece for piece, _ in lines), record()[:-1]])
     text = list_text(data)

@@ -3,15 +3,17 @@
 A comparison that never met a refusal or a verdict has shown nothing about it,
 so each one that the papers make reachable has to be met at least once, verdicts
 and turns in each situation of request 8 of 02, both with αcc 100 and below it
-(request 10), and every αcc with every class in both situations.
+(request 10), and every αcc with every class in both situations, with depths up
+to 10h and beyond (request 11).
 """
 
 from collections import Counter
 from itertools import product
-from math import ceil, floor
+from math import ceil
+from typing import NamedTuple
 
 import second
-from samples import last_spacing, least_link_area
+from samples import faces_of, last_spacing, last_up_to_10h, least_link_area
 
 LIST_REFUSALS = tuple(dict.fromkeys(
     second.SEQUENCES["Read a record"] + second.SEQUENCES["Check"] + second.SEQUENCES["List program"]))
@@ -62,6 +64,115 @@ def first_verdict_turns(load, report):
     yield "M fails by the other face alone", abs(load.m) <= report.mrd and report.verdicts[0] == second.FAIL
 
 
+# --- depths beyond 10h: request 11 of 02 ---------------------------------------
+
+
+class Face(NamedTuple):
+    """What Check answers of a face under N."""
+
+    seen: second.Section
+    n: int
+    u: int
+    mrd: int
+
+
+def faces_beyond(section, load, report):
+    """The face that M compresses and the other one, None in place of one whose depth is up to 10h."""
+    faces = (Face(second.as_compressed(section, load.m), load.n, report.u, report.mrd),
+             Face(second.as_other_face(section, load.m), load.n, report.other_u, report.other_mrd))
+    return [face if face.u > second.greatest_depth(section) else None for face in faces]
+
+
+def halved_depth(seen, n):
+    """What halving would find beyond 10h, as if the force rose with every depth."""
+    return 1 + second.greatest(lambda u: second.force_beyond(seen, u) < n,
+                               second.greatest_depth(seen), second.last_depth(seen) + 1)
+
+
+def unrounded_force(seen, u):
+    """The sum of the parts' forces beyond 10h, nothing rounded."""
+    mat, height = second.materials_of(seen), seen.height
+    concrete = second.Fraction(mat.f * seen.width * second.block_depth_beyond(mat, height, u), 80_000)
+    return concrete + sum(layer.area * second.Fraction(*second.stress_beyond(mat, height, layer.depth, u))
+                          for layer in second.counted(seen))
+
+
+def moment_of_rounded_forces(seen, u):
+    """The moment, were it taken from the rounded forces."""
+    mat, height = second.materials_of(seen), seen.height
+    steel = sum(second.layer_force_beyond(mat, height, layer, u) * (height - 2 * layer.depth) // 2
+                for layer in second.counted(seen))
+    arm = 800 * height - second.block_depth_beyond(mat, height, u)
+    return second.concrete_force_beyond(mat, seen, u) * arm // 1_600 + steel
+
+
+def depth_turns(face):
+    """Where N and u of a face beyond 10h stand."""
+    seen, n, u, _ = face
+    first, last = second.greatest_depth(seen) + 1, second.last_depth(seen)
+    before, there = second.force_at(seen, u - 1), second.force_at(seen, u)
+    yield "u is 10h + 1", u == first
+    yield "u is 30h", u == last
+    yield "N is a newton below the force at u", n == there - 1
+    yield "N is the force at u", n == there
+    yield "N is a newton above the force before u", u > first and n == before + 1
+    yield "N is above the force at 30h", n > second.force_at(seen, last)
+    yield "a greater depth reaches N too", u < last and n <= second.force_at(seen, last)
+    yield "halving would find another depth", halved_depth(seen, n) != u
+    yield "parts not rounded would reach N before", u > first and unrounded_force(seen, u - 1) >= n
+
+
+def part_turns(face):
+    """What concrete and layers of a face beyond 10h do."""
+    seen, _, u, mrd = face
+    mat, height, layers = second.materials_of(seen), seen.height, second.counted(seen)
+    held = [second.stress_beyond(mat, height, layer.depth, u) == (mat.s, 100) for layer in layers]
+    rise = [second.never_falls(mat, height, layer) for layer in layers]
+    yield "the block is less than h", mat.L * u < 800 * height
+    yield "L·x/80 is more than h", mat.L * u > 800 * height
+    yield "a layer is held at s/100", any(held)
+    yield "a layer that rises is free", any(rises and not at_limit for rises, at_limit in zip(rise, held))
+    yield "a layer that falls is free", any(not rises and not at_limit for rises, at_limit in zip(rise, held))
+    yield "layers rise and layers fall", len(set(rise)) == 2
+    yield "a layer where the strain line turns", any(mat.E * layer.depth == (mat.E - mat.D) * height for layer in layers)
+    yield "sixteen layers", len(layers) == second.PLACES
+    yield "a moment of rounded forces would be another", moment_of_rounded_forces(seen, u) != mrd
+    yield "MRd is negative", mrd < 0
+    yield "MRd is positive", mrd > 0
+    yield "h is 50", height == 50
+    yield "h is 2,000", height == 2_000
+
+
+def verdict_turns_beyond(load, report, compressed, other):
+    """Which face is beyond 10h, its end of verdict one, and what the other verdicts then rest on."""
+    top, bottom = (compressed, other) if load.m >= 0 else (other, compressed)
+    both, other_alone = compressed and other, other and not compressed
+    for name, met in beside("M is MRd of the top, beyond 10h", load.m, top.mrd if top else 0):
+        yield name, bool(top and met)
+    for name, met in beside("M is minus MRd of the bottom, beyond 10h", load.m, -bottom.mrd if bottom else 0):
+        yield name, bool(bottom and met)
+    yield "only the face that M compresses is beyond 10h", bool(compressed and not other)
+    yield "only the other face is beyond 10h", bool(other_alone)
+    yield "only the other face is beyond 10h, and layers are in tension", bool(other_alone and report.area)
+    yield "both faces are beyond 10h", bool(both)
+    yield "both faces are beyond 10h at different depths", bool(both and compressed.u != other.u)
+    yield "both faces are beyond 10h, v1 passes", bool(both and report.verdicts[0] == second.PASS)
+    yield "both faces are beyond 10h, v1 fails", bool(both and report.verdicts[0] == second.FAIL)
+    yield "M < 0 compresses a face beyond 10h", bool(compressed and load.m < 0)
+    yield "V is not 0, the face that M compresses beyond 10h", bool(compressed and load.v)
+
+
+def beyond_turns(section, load, report):
+    """All that an accepted record meets beyond 10h; the names of a record without such a face count nothing."""
+    compressed, other = faces_beyond(section, load, report)
+    yield from verdict_turns_beyond(load, report, compressed, other)
+    for name, face in (("beyond 10h", compressed), ("beyond 10h, the other face", other)):
+        for fck in second.CLASSES:
+            yield f"{name}: fck {fck}", bool(face and section.fck == fck)
+        if face:
+            yield from ((f"{name}: {turn}", met) for turn, met in (*depth_turns(face), *part_turns(face)))
+
+
 def bending_turns(seen, load, report):
     """What the two depths and resistances are, and where verdict two turns."""
     limit = second.depth_limit(seen.fck) * report.dm
@@ -77,19 +188,35 @@ def bending_turns(seen, load, report):
     yield "u of the other face is 10h", report.other_u == second.greatest_depth(seen)
 
 
+def beside_last(name, faces, n):
+    """N a newton below the last that all these faces reach, at it, and a newton above it."""
+    def is_last(force):
+        reached, more = (not any(second.above_range(face, number) for face in faces) for number in (force, force + 1))
+        return reached and not more
+
+    yield f"{name} - 1", is_last(n + 1)
+    yield name, is_last(n)
+    yield f"{name} + 1", is_last(n - 1)
+
+
 def axial_turns(section, load):
-    """Where 11 and 12 turn, for a record that no earlier test refuses."""
-    top, bottom = second.upright(section), second.turned_over(section)
-    last = second.greatest_depth(section)
-    least = ceil(second.internal_force(top, 1))  # of both faces
-    of_top, of_bottom = (floor(second.internal_force(face, last)) for face in (top, bottom))
-    yield from beside("N is the least at depth 1", load.n, least)
-    yield from beside("N is the last at 10h of the top", load.n, of_top)
-    yield from beside("N is the last at 10h of the bottom", load.n, of_bottom)
+    """Where 11 and 12 turn and depths beyond 10h begin, for a record that no earlier test refuses."""
+    top, bottom = faces_of(section)
+    yield from beside("N is the least at depth 1", load.n, ceil(second.force_at_end(top, 1)))  # of both faces
+    yield from beside("N is the last at 10h of the top", load.n, last_up_to_10h(top))
+    yield from beside("N is the last at 10h of the bottom", load.n, last_up_to_10h(bottom))
+    yield "N is the last at 10h, and rounded parts would not reach it there", any(
+        load.n == last_up_to_10h(seen) > second.force_beyond(seen, second.greatest_depth(seen))
+        for seen in (top, bottom))
+    yield from beside_last("N is the last that the top reaches", [top], load.n)
+    yield from beside_last("N is the last that the bottom reaches", [bottom], load.n)
+    above_top, above_bottom = (second.above_range(face, load.n) for face in (top, bottom))
     for sign, compressed in (("M < 0", load.m < 0), ("M >= 0", load.m >= 0)):
-        yield f"12 of the top alone, {sign}", compressed and of_top < load.n <= of_bottom
-        yield f"12 of the bottom alone, {sign}", compressed and of_bottom < load.n <= of_top
-    yield "12 of both faces", load.n > max(of_top, of_bottom)
+        for name, met in beside_last("N is the last that both faces reach", [top, bottom], load.n):
+            yield f"{name}, {sign}", compressed and met
+        yield f"12 of the top alone, {sign}", compressed and above_top and not above_bottom
+        yield f"12 of the bottom alone, {sign}", compressed and above_bottom and not above_top
+    yield "12 of both faces", above_top and above_bottom
 
 
 def shear_turns(seen, load, report):
@@ -182,6 +309,7 @@ def turns(section, load, report):
     seen = second.as_compressed(section, load.m)
     area = sum(layer.area for layer in second.counted(seen))
     found = [*class_turns(seen), *first_verdict_turns(load, report), *bending_turns(seen, load, report),
+             *beyond_turns(section, load, report),
              ("25 times all areas is b·h", 25 * area == seen.width * seen.height)]
     if report.area:
         found += [*shear_turns(seen, load, report), *steel_turns(seen, load, report)]
@@ -218,6 +346,7 @@ class Coverage:
     def __init__(self):
         self.refusals = Counter()
         self.grades = Counter()
+        self.grades_beyond = Counter()  # with a face beyond 10h
         self.verdicts = {case: [Counter() for _ in REACHABLE] for case in CASES}
         self.turns = {case: Counter() for case in CASES}
         self.calls = Counter()
@@ -227,7 +356,9 @@ class Coverage:
         self.refusals[report.refusal] += 1
         if report.refusal == 0:
             section = second.read_record(subject).section
-            self.grades[section.alpha_cc, section.fck, section.situation] += 1
+            grade = section.alpha_cc, section.fck, section.situation
+            self.grades[grade] += 1
+            self.grades_beyond[grade] += max(report.u, report.other_u) > second.greatest_depth(section)
             for counter, value in zip(self.verdicts[case_of(section)], report.verdicts):
                 counter[value] += 1
             for name, met in presence_turns(subject):
@@ -260,8 +391,9 @@ class Coverage:
     def never_met(self, refusals):
         """What had to be met and was not."""
         missing = [f"refusal {number}" for number in refusals if not self.refusals[number]]
-        missing += [f"αcc {alpha_cc}, fck {fck}, situation {situation}" for alpha_cc, fck, situation in GRADES
-                    if not self.grades[alpha_cc, fck, situation]]
+        for counter, where in ((self.grades, ""), (self.grades_beyond, ", a face beyond 10h")):
+            missing += [f"αcc {alpha_cc}, fck {fck}, situation {situation}{where}"
+                        for alpha_cc, fck, situation in GRADES if not counter[alpha_cc, fck, situation]]
         for case in CASES:
             missing += [f"verdict {place} of {value}, {case}"
                         for place, values in enumerate(REACHABLE, 1) for value in values
@@ -273,8 +405,9 @@ class Coverage:
         """The counts as lines of text."""
         met = (f"{number}: {times}" for number, times in sorted(self.refusals.items()) if times)
         yield "refusal (0 is none): " + ", ".join(met)
-        together = sum(self.grades[grade] > 0 for grade in GRADES)
-        yield f"αcc with class and situation: {together} of {len(GRADES)} accepted"
+        together, beyond = (sum(counter[grade] > 0 for grade in GRADES) for counter in (self.grades, self.grades_beyond))
+        yield f"αcc with class and situation: {together} of {len(GRADES)} accepted, {beyond} with a face beyond 10h"
+        yield f"accepted with a face beyond 10h: {sum(self.grades_beyond.values())} of {sum(self.grades.values())}"
         of_each = ((alpha_cc, sum(times for grade, times in self.grades.items() if grade[0] == alpha_cc))
                    for alpha_cc in second.ALPHAS)
         yield "αcc of those accepted: " + ", ".join(f"{alpha_cc}: {times}" for alpha_cc, times in of_each)

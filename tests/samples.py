@@ -10,7 +10,7 @@ from math import ceil, floor, isqrt
 from typing import NamedTuple, Optional
 
 import second
-from second import FAIL, NOT_REACHED, PASS, Links, Load, Section
+from second import FAIL, NOT_REACHED, PASS, SIXTEEN, Links, Load, Section
 
 I64_MIN, I64_MAX = -2**63, 2**63 - 1
 U32_MAX = 2**32 - 1
@@ -34,11 +34,9 @@ def record(section, load):
     return second.assemble(second.fields_written(section, load))
 
 
-# Layers near both faces and inside, some equal depths, sixteen in all.
-SIXTEEN = second.section_of(
-    400, 700, 40, 500, [(50 + 40 * (place // 2), 100 + 10 * place) for place in range(16)])
 SHALLOW = second.section_of(300, 500, 30, 500, [(25, 1_500)])
 THREE = second.section_of(400, 700, 30, 500, [(640, 1_900), (60, 800), (350, 300)])
+HIGH = SIXTEEN._replace(fck=70, fyk=463)
 UNDER_LOAD = Load(0, 200_000_000, 80_000)
 
 
@@ -122,14 +120,20 @@ def load_samples():
 
 def reference_samples():
     """The cases of section A that are loads or depths, with their refusals."""
-    forces = ((-651_690, 2_505_000, 3_052_170), (-749_400, 3_105_000, 3_750_000),  # the least, and the last of each face
-              (-651_762, 2_145_000, 2_692_170), (-749_490, 2_655_000, 3_300_000))
-    for a, (least, of_top, of_bottom) in zip(in_each_case(second.SECTION_A), forces):
-        for n, m in ((0, 0), (0, -1), (least, 0), (of_top, 0)):
+    forces = (  # the least N, the last up to 10h of top and bottom, the last of all of top and bottom
+        (-651_690, (2_505_000, 3_052_170), (3_441_000, 3_652_170)),
+        (-749_400, (3_105_000, 3_750_000), (4_191_000, 4_500_000)),
+        (-651_762, (2_145_000, 2_692_170), (2_991_000, 3_202_170)),
+        (-749_490, (2_655_000, 3_300_000), (3_628_500, 3_937_500)))
+    for a, (least, at_10h, (last, of_bottom)) in zip(in_each_case(second.SECTION_A), forces):
+        for n, m in ((0, 0), (0, -1), (least, 0)):
             yield Sample(f"A, N {n}, M {m}", a, Load(n, m, 0), 0)
         yield Sample(f"A, N {least - 1}", a, Load(least - 1, 0, 0), 11)
-        for n, m in ((of_top + 1, 0), (of_top + 1, -1), (of_bottom, -1), (of_bottom + 1, -1)):
-            yield Sample(f"A, N {n}, M {m}", a, Load(n, m, 0), 12)
+        for m in (0, -1):
+            for n in (*at_10h, *(force + 1 for force in at_10h), last):
+                yield Sample(f"A, N {n}, M {m}", a, Load(n, m, 0), 0)
+            for n in (last + 1, of_bottom, of_bottom + 1):
+                yield Sample(f"A, N {n}, M {m}", a, Load(n, m, 0), 12)
     a = second.SECTION_A
     yield Sample("A, depth 500", with_layer(a, 0, depth=500), UNDER_LOAD, 6)
     yield Sample("A, depth 499", with_layer(a, 0, depth=499), UNDER_LOAD, 0)
@@ -141,17 +145,41 @@ def least_force(section):
     return ceil(second.internal_force(section, 1))
 
 
+def faces_of(section):
+    """The section as its top and as its bottom sees it."""
+    return second.upright(section), second.turned_over(section)
+
+
+def last_up_to_10h(seen):
+    """The last N whose depth is one up to 10h."""
+    return floor(second.force_at_end(seen, second.greatest_depth(seen)))
+
+
+def last_force(seen):
+    """The last N that is no 12 for a face: its greatest force, which need not lie at 30h."""
+    return max(last_up_to_10h(seen), second.greatest_force_beyond(seen))
+
+
+def last_of_both(section):
+    """The last N that is no 12 in Check."""
+    return min(last_force(seen) for seen in faces_of(section))
+
+
+# Request 11 of 02: forces that fall again, late and soon, one that is level, one that falls from 10h on, a face with
+# tension layers while the other's depth is beyond 10h, the lowest and the highest section.
+COLUMNS = (second.TURNED_A, second.HUMP, second.COLUMN, second.FALLING, second.MIXED, second.SMALL, second.LARGE)
+
+
 def end_samples():
-    """Tests 11 and 12 at the very newton of both faces, whichever M compresses."""
-    for section in in_each_case(second.SECTION_A, SHALLOW, SIXTEEN, SIXTEEN._replace(fck=70, fyk=463)):
-        faces = second.upright(section), second.turned_over(section)
-        least = least_force(section)
-        mosts = [floor(second.internal_force(seen, second.greatest_depth(seen))) for seen in faces]
+    """Tests 11 and 12 at the very newton of both faces, whichever M compresses, and N at their forces at 10h."""
+    for section in in_each_case(second.SECTION_A, SHALLOW, SIXTEEN, HIGH, *COLUMNS):
+        least, last = least_force(section), last_of_both(section)
+        forces = dict.fromkeys(force(seen) for force in (last_up_to_10h, last_force) for seen in faces_of(section))
         for m in (0, -1):
             for n in (least - 1, least, least + 1):
                 yield Sample(f"depth 1, N {n}, M {m}", section, Load(n, m, 0), 0 if n >= least else 11)
-            for n in (most + more for most in mosts for more in (-1, 0, 1)):
-                yield Sample(f"depth 10h, N {n}, M {m}", section, Load(n, m, 0), 0 if n <= min(mosts) else 12)
+            for n in (force + more for force in forces for more in (-1, 0, 1)):
+                yield Sample(f"10h or the end, N {n}, M {m}", section, Load(n, m, 0), 0 if n <= last else 12)
 
 
 # One way to fail each test of Check alone, by its number; 6 fails late and 7
@@ -223,6 +251,9 @@ def first_verdict_samples():
     cases = [(section, 1_000_000) for section in in_each_case(SIXTEEN)]
     cases += [(section, 0) for section in both_ways(second.NO_MOMENT_SUITS)]
     cases += [(section, n) for section in both_ways(second.SECTION_A) for n in (0, least_force(section))]
+    for section in (*both_ways(second.SECTION_A), *in_each_case(SIXTEEN, second.COLUMN)):
+        first_beyond = 1 + min(last_up_to_10h(seen) for seen in faces_of(section))
+        cases += [(section, n) for n in (first_beyond, last_of_both(section))]
     for section, n in cases:
         answer = second.check(section, Load(n, 0, 0))  # of the top, and of the bottom as the other face
         for m in (end + more for end in (answer.mrd, -answer.other_mrd, 0) for more in (-1, 0, 1)):
@@ -307,7 +338,7 @@ def link_range_samples():
         for value in (0, least - 1, *inside, most + 1, 2**16 + least, 2**31, U32_MAX):
             yield Sample(f"link {field} {value}", linked(second.SECTION_A, **{field: value}), second.NO_LOAD,
                          0 if value in inside else number)
-    for n in (-N_MOST, -651_691, -651_690, -1, 0, 1, 2_505_000, 2_505_001, N_MOST):
+    for n in (-N_MOST, -651_691, -651_690, -1, 0, 1, 2_505_000, 2_505_001, 3_441_000, 3_441_001, N_MOST):
         yield Sample(f"links under N {n}", linked(second.SECTION_A), Load(n, 0, 0), 29 if n else 0)
 
 
@@ -319,7 +350,8 @@ def presence_samples():
         yield Sample(f"present {present}", there, second.NO_LOAD, 0, PASS, 25)
         yield Sample(f"present {present}, area 0", linked(there, area=0), second.NO_LOAD, 27, NOT_REACHED, 0)
     for area, spacing in ((0, 0), (0, 200), (101, 200), (5_001, 24), (U32_MAX, U32_MAX)):
-        for n, refusal in ((-651_691, 11), (-651_690, 0), (0, 0), (1, 0), (2_505_000, 0), (2_505_001, 12)):
+        for n, refusal in ((-651_691, 11), (-651_690, 0), (0, 0), (1, 0), (2_505_000, 0), (2_505_001, 0),
+                           (3_441_000, 0), (3_441_001, 12)):
             yield Sample(f"absent links {area}/{spacing}, N {n}", a._replace(links=Links(0, area, spacing)),
                          Load(n, 0, 0), refusal, NOT_REACHED, 0)
 
@@ -399,11 +431,47 @@ def exact_ratio_samples():
                              0, passes(area >= 20))
 
 
+# --- columns: request 11 of 02 ------------------------------------------------
+
+
+def whole_block_depth(seen):
+    """The first whole depth at which the block's depth L·x/80 is h."""
+    return -(-800 * seen.height // second.materials_of(seen).L)
+
+
+def depths_that_tell(seen):
+    """Depths beyond 10h: the first two, about where the block becomes h, between, and the last two."""
+    first, last, whole = second.greatest_depth(seen) + 1, second.last_depth(seen), whole_block_depth(seen)
+    return first, first + 1, whole - 1, whole, whole + 1, (whole + last) // 2, last - 1, last
+
+
+def column_depth_samples():
+    """N at the forces of whole depths beyond 10h of either face; where they fall again the answer is another depth."""
+    for section in in_each_case(second.SECTION_A, second.HUMP, second.COLUMN, second.MIXED, second.SMALL, HIGH):
+        last = last_of_both(section)
+        for m in (0, -1):
+            seen = second.as_compressed(section, m)
+            for u, more in product(depths_that_tell(seen), (-1, 0, 1)):
+                n = second.force_beyond(seen, u) + more
+                yield Sample(f"force at {u} + {more}, M {m}", section, Load(n, m, 1), 0 if n <= last else 12)
+
+
+def column_grade_samples():
+    """Every αcc with every class in both situations, under the last N that both faces reach; 12 begins above it."""
+    for alpha_cc, situation, fck in product(second.ALPHAS, second.FACTORS, second.CLASSES):
+        section = THREE._replace(fck=fck, situation=situation, alpha_cc=alpha_cc)
+        last, m = last_of_both(section), 1 if alpha_cc % 2 else -1
+        yield Sample(f"fck {fck}, αcc {alpha_cc}, the last N", section, Load(last, m, 0), 0)
+        if alpha_cc in (85, 100):
+            yield Sample(f"fck {fck}, αcc {alpha_cc}, the last N + 1", section, Load(last + 1, m, 0), 12)
+
+
 def all_samples():
     """Every fixed sample of this file."""
     for group in (field_samples, class_samples, count_samples, layer_samples, load_samples,
                   reference_samples, end_samples, order_samples, first_verdict_samples,
                   bending_turn_samples, shear_turn_samples, steel_turn_samples,
                   size_factor_samples, grade_samples, field_presence_samples, link_range_samples,
-                  presence_samples, cotangent_samples, tie_samples, link_turn_samples, exact_ratio_samples):
+                  presence_samples, cotangent_samples, tie_samples, link_turn_samples, exact_ratio_samples,
+                  column_depth_samples, column_grade_samples):
         yield from group()

@@ -3,16 +3,17 @@
 N is taken at the internal force of a whole depth, M at the moment resistance
 of either face, V at the shear resistance, each a unit to either side, and areas
 at the limits of 9.2.1.1. Links have V, spacing or ratio at the turn of verdict
-six, or two cotangents that resist the same. The generator is handed in, so a
-seed repeats a run.
+six, or two cotangents that resist the same. Columns have N at the force of a
+depth beyond 10h, or where 12 turns. The generator is handed in, so a seed
+repeats a run.
 """
 
 from math import ceil, floor
 
 import second
 from damaged import Run, fields_of
-from samples import (FAILINGS, I64_MAX, I64_MIN, M_MOST, Sample, last_spacing, least_link_area, linked, passes,
-                     record, with_layer)
+from samples import (FAILINGS, I64_MAX, I64_MIN, M_MOST, N_MOST, Sample, faces_of, last_force, last_of_both,
+                     last_spacing, last_up_to_10h, least_link_area, linked, passes, record, with_layer)
 from second import (ACCIDENTAL, ALPHA_CC_BIT, FAIL, LINK_BIT, NOT_REACHED, PERSISTENT, SITUATION_BIT, UNREDUCED,
                     Layer, Links, Load)
 
@@ -133,13 +134,17 @@ def turning_moment(rng, section, n, sign):
     return held(beside(rng, sign * end), -M_MOST, M_MOST)
 
 
+def with_turning_shear(rng, section, n, m):
+    """N, M, and V at the resistance that belongs to both."""
+    shear = max(0, beside(rng, second.check(section, Load(n, m, 0)).vrd))
+    return Load(n, m, rng.choice((1, -1)) * shear)
+
+
 def turning_load(rng, section):
     """N, then M at an end of verdict one, and V at the resistance that belongs to both."""
     sign = rng.choice((1, -1))
     n = turning_axial_force(rng, second.as_compressed(section, sign))
-    m = turning_moment(rng, section, n, sign)
-    shear = max(0, beside(rng, second.check(section, Load(n, m, 0)).vrd))
-    return Load(n, m, rng.choice((1, -1)) * shear)
+    return with_turning_shear(rng, section, n, turning_moment(rng, section, n, sign))
 
 
 # --- links: request 3 of 02 ---------------------------------------------------
@@ -230,6 +235,60 @@ def tie_sample(rng, label):
             return Sample(label, section._replace(links=links), Load(0, sign, 0), 0, None, tenths)
 
 
+# --- columns: request 11 of 02 ------------------------------------------------
+
+
+def symmetric_section(rng):
+    """The same layers at both faces: a force that is often level, and then so long to search that h is small."""
+    height = rng.randint(50, 120)
+    layers = [Layer(rng.randint(1, height - 1), rng.randint(1, 3_000)) for _ in range(rng.choice((1, 1, 2, 4)))]
+    mirrored = [layer._replace(depth=height - layer.depth) for layer in layers]
+    return second.section_of(rng.randint(50, 400), height, rng.choice(second.CLASSES), rng.randint(400, 600),
+                             layers + mirrored, **any_case(rng))
+
+
+def top_heavy_section(rng):
+    """A narrow section with much steel on one side of the point where the strain line turns: the force falls again."""
+    height = rng.randint(100, 1_000)
+    layers = [Layer(rng.randint(height // 8, height // 2), rng.randint(5_000, 20_000)) for _ in range(rng.randint(1, 4))]
+    layers += [Layer(rng.randint(height // 2, height - 1), rng.randint(1, 500)) for _ in range(rng.randint(0, 2))]
+    section = second.section_of(rng.randint(50, 200), height, rng.choice(second.CLASSES), rng.choice((500, 600)),
+                                layers, **any_case(rng))
+    return rng.choice((second.upright, second.turned_over))(section)
+
+
+def depth_beyond_10h(rng, seen):
+    """A whole depth beyond 10h, at an end or any; more of them near 10h, where the force changes most."""
+    first, last = second.greatest_depth(seen) + 1, second.last_depth(seen)
+    return rng.choice((first, first + 1, last - 1, last, *[first + int((last - first) * rng.random()**3)] * 12))
+
+
+def weaker_face(section):
+    """The face with the lesser force at 30h: what it reaches the other mostly reaches too."""
+    return min(faces_of(section), key=lambda seen: second.force_beyond(seen, second.last_depth(seen)))
+
+
+def column_axial_force(rng, section):
+    """N at the force of a depth beyond 10h of a face, at that at 10h, or at the greatest of one face or of both."""
+    seen = rng.choice((weaker_face(section), weaker_face(section), *faces_of(section)))
+    kind = rng.random()
+    if kind < 0.1:
+        force = last_up_to_10h(seen)
+    elif kind < 0.15:
+        force = rng.choice((last_of_both(section), last_force(seen)))
+    else:
+        force = second.force_beyond(seen, depth_beyond_10h(rng, seen))
+    return held(beside(rng, force), -N_MOST, N_MOST)
+
+
+def column_sample(rng, label):
+    """Any section under an N that mostly asks for a depth beyond 10h; M is at an end of verdict one, or 1, or -1."""
+    section = rng.choice((random_section, random_section, random_section, top_heavy_section, symmetric_section))(rng)
+    n, sign = column_axial_force(rng, section), rng.choice((1, -1))
+    m = rng.choice((sign, turning_moment(rng, section, n, sign), turning_moment(rng, section, n, sign)))
+    return Sample(label, section, with_turning_shear(rng, section, n, m))
+
+
 def spoiled(rng, section, load):
     """One test made to fail, any links, any situation or αcc, or one field replaced by any 64-bit number."""
     kind = rng.random()
@@ -262,9 +321,10 @@ def random_sample(rng, label):
 
 
 def random_samples(rng, number):
-    """As many random samples."""
+    """As many random samples, and as many columns."""
     for place in range(number):
         yield random_sample(rng, f"random {place + 1}")
+        yield column_sample(rng, f"column {place + 1}")
 
 
 # --- records and runs -------------------------------------------------------

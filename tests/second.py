@@ -4,15 +4,17 @@
 Written from document 01 (papers/01-scope.md), heading by heading and in its
 order, with whole numbers and exact fractions only; where a request of document
 02 (papers/02-change-requests.md) changes a sentence, the request is named. It
-shares no code with the engine and takes no care of speed: it is here to be
-read beside the papers.
+shares no code with the engine and takes no care of speed, but for the search
+beyond 10h: it is here to be read beside the papers.
 
 Run by itself it answers every row of "Reference cases" and prints 'ok' or
 'DIFFERS' for each; the expected values there are the papers', and the project's
-own for the section that no M suits, for the links, for the accidental situation
-and for αcc below 1.
+own for the section that no M suits, for the links, for the accidental situation,
+for αcc below 1 and for most depths beyond 10h. The search there answers beside
+the plain look at every depth, for random sections whose seed is printed.
 """
 
+import random
 import sys
 from fractions import Fraction
 from functools import lru_cache
@@ -103,6 +105,8 @@ def has_links(section):
 CLASSES = (12, 16, 20, 25, 30, 35, 40, 45, 50, 55, 60, 70, 80, 90)
 T_ROW = (16, 19, 22, 26, 29, 32, 35, 38, 41, 42, 44, 46, 48, 50)
 E_ROW = (700, 700, 700, 700, 700, 700, 700, 700, 700, 620, 580, 540, 520, 520)
+# "D is 350 up to fck 50, then 360, 380, 400, 440 and 460 for 55, 60, 70, 80 and 90" (02, request 11)
+D_ROW = (350, 350, 350, 350, 350, 350, 350, 350, 350, 360, 380, 400, 440, 460)
 
 
 class Factors(NamedTuple):
@@ -128,6 +132,7 @@ class Materials(NamedTuple):
     f: int  # strength of the block, hundredths of N/mm²
     g: int  # the same without the strength factor
     s: int  # strength of the steel, hundredths of N/mm²
+    D: int  # of the strain line beyond 10h (02, request 11)
 
 
 def depth_factor(fck):
@@ -158,6 +163,7 @@ def materials(fck, fyk, situation, alpha_cc=UNREDUCED):
         f=floor(strength_factor(fck) * concrete),
         g=floor(concrete),
         s=floor(steel),
+        D=D_ROW[CLASSES.index(fck)],
     )
 
 
@@ -223,6 +229,12 @@ def internal_force(section, u):
     mat = materials_of(section)
     steel = sum(layer_force(mat, layer, u) for layer in counted(section))
     return concrete_force(section, u) + steel
+
+
+@lru_cache(maxsize=None)
+def force_at_end(section, u):
+    """The same at depth 1 or 10h, kept: every test of N asks for it."""
+    return internal_force(section, u)
 
 
 def greatest(holds, least, beyond):
@@ -298,6 +310,172 @@ def unrounded_moment(section, u):
 
 
 # --------------------------------------------------------------------------
+# Beyond 10h, up to 30h: request 11 of 02. "Clause 6.1 turns the strain line
+# about the point at (1 − D/E)·h from the compressed face." A depth u is whole
+# here, and so is every other number: a part's force, or its moment, is one
+# division of whole numbers, rounded down.
+# --------------------------------------------------------------------------
+
+
+def last_depth(section):
+    """'Beyond 10h, up to 30h'"""
+    return 30 * section.height
+
+
+def depths_beyond(section):
+    """The whole depths beyond 10h."""
+    return range(greatest_depth(section) + 1, last_depth(section) + 1)
+
+
+def stress_beyond(mat, height, depth, u):
+    """'D·E·(x−d)/(E·x − (E−D)·h) with x = u/10, held within ±s/100': as numerator and
+    denominator, both taken ten times."""
+    numerator = mat.D * mat.E * (u - 10 * depth)
+    denominator = mat.E * u - 10 * (mat.E - mat.D) * height  # at least 10·D·h from u = 10h on
+    if 100 * numerator > mat.s * denominator:
+        return mat.s, 100
+    if 100 * numerator < -mat.s * denominator:
+        return -mat.s, 100
+    return numerator, denominator
+
+
+def layer_force_beyond(mat, height, layer, u):
+    """'each part's force is rounded down to a whole newton': area times stress."""
+    numerator, denominator = stress_beyond(mat, height, layer.depth, u)
+    return layer.area * numerator // denominator
+
+
+def layer_moment_beyond(mat, height, layer, u):
+    """'its moment, from the unrounded force, to whole N·mm': that force times (h/2−d)."""
+    numerator, denominator = stress_beyond(mat, height, layer.depth, u)
+    return layer.area * numerator * (height - 2 * layer.depth) // (2 * denominator)
+
+
+def block_depth_beyond(mat, height, u):
+    """'The block's depth is L·x/80, at most h': in 800ths of a millimetre."""
+    return min(mat.L * u, 800 * height)
+
+
+def concrete_force_beyond(mat, section, u):
+    """f/100 times b times the block's depth, rounded down to a whole newton."""
+    return mat.f * section.width * block_depth_beyond(mat, section.height, u) // 80_000
+
+
+def concrete_moment_beyond(mat, section, u):
+    """The unrounded force times (h/2 − half the block's depth), rounded down to whole N·mm."""
+    block = block_depth_beyond(mat, section.height, u)
+    return mat.f * section.width * block * (800 * section.height - block) // 128_000_000
+
+
+def force_beyond(section, u):
+    """The internal force at a depth beyond 10h: the sum of the parts so rounded."""
+    mat = materials_of(section)
+    return concrete_force_beyond(mat, section, u) + sum(
+        layer_force_beyond(mat, section.height, layer, u) for layer in counted(section))
+
+
+def moment_beyond(section, u):
+    """The moment resistance at a depth beyond 10h: the sum of the parts' moments."""
+    mat = materials_of(section)
+    return concrete_moment_beyond(mat, section, u) + sum(
+        layer_moment_beyond(mat, section.height, layer, u) for layer in counted(section))
+
+
+@lru_cache(maxsize=1)
+def forces_beyond(section):
+    """The force at each depth beyond 10h, in turn."""
+    return tuple(force_beyond(section, u) for u in depths_beyond(section))
+
+
+def plain_depth_beyond(section, n):
+    """'the answer is the least u beyond 10h whose force is at least N', or None. This is
+    the definition, a look at each depth in turn; depth_beyond gives the same sooner."""
+    return next((u for u, force in zip(depths_beyond(section), forces_beyond(section)) if force >= n), None)
+
+
+def never_falls(mat, height, layer):
+    """A layer whose stress never falls with u: d ≥ (1 − D/E)·h. Any other's never rises.
+
+    With c for (1 − D/E)·h the stress is D·(x−d)/(x−c), which is D + D·(c−d)/(x−c), and
+    x−c grows with u. Limits and rounding down keep the order.
+    """
+    return mat.E * layer.depth >= (mat.E - mat.D) * height
+
+
+def most_force_between(section, a, b):
+    """No force of the whole depths from a to b is above this, and for a = b it is the force.
+
+    Every part is taken where it is greatest: the concrete and the layers that
+    never fall at b, the layers that never rise at a.
+    """
+    mat, height = materials_of(section), section.height
+    return concrete_force_beyond(mat, section, b) + sum(
+        layer_force_beyond(mat, height, layer, b if never_falls(mat, height, layer) else a)
+        for layer in counted(section))
+
+
+def least_reaching(section, n, a, b):
+    """The least whole depth from a to b whose force is at least N, or None.
+
+    An interval that cannot reach N is left out whole; any other is halved, and
+    its lower half is asked first.
+    """
+    if most_force_between(section, a, b) < n:
+        return None
+    if a == b:
+        return a
+    middle = (a + b) // 2
+    lower = least_reaching(section, n, a, middle)
+    return least_reaching(section, n, middle + 1, b) if lower is None else lower
+
+
+@lru_cache(maxsize=None)
+def depth_beyond(section, n):
+    """What plain_depth_beyond answers."""
+    return least_reaching(section, n, greatest_depth(section) + 1, last_depth(section))
+
+
+@lru_cache(maxsize=None)
+def greatest_force_beyond(section):
+    """The greatest force of all depths beyond 10h: no depth there reaches a larger N.
+
+    An interval that cannot exceed what was met is left out whole.
+    """
+    waiting = [(greatest_depth(section) + 1, last_depth(section))]
+    most = force_beyond(section, last_depth(section))
+    while waiting:
+        a, b = waiting.pop()
+        if most_force_between(section, a, b) > most:
+            most = max(most, force_beyond(section, a), force_beyond(section, b))
+            middle = (a + b) // 2
+            waiting += [(a, middle), (middle + 1, b)] if b - a > 1 else []
+    return most
+
+
+# A depth of either page
+
+
+def reached_by_10h(section, n):
+    """'for N above the force at 10h' the depth lies beyond; that force is not rounded."""
+    return n <= force_at_end(section, greatest_depth(section))
+
+
+def depth_under(section, n):
+    """The depth under an N that is neither 11 nor 12, of whichever page."""
+    return depth_returned(section, n) if reached_by_10h(section, n) else depth_beyond(section, n)
+
+
+def force_at(section, u):
+    """The internal force at a whole depth: exact up to 10h, of rounded parts beyond."""
+    return internal_force(section, u) if u <= greatest_depth(section) else force_beyond(section, u)
+
+
+def resistance_at(section, u):
+    """MRd at a whole depth, by the page that it belongs to."""
+    return moment_resistance(section, u) if u <= greatest_depth(section) else moment_beyond(section, u)
+
+
+# --------------------------------------------------------------------------
 # The accuracy statement
 # --------------------------------------------------------------------------
 
@@ -330,10 +508,11 @@ def accuracy_holds(seen, n, u, moment_reported, p, q):
 
     Find a depth has the top alone. Of Check the statement 'covers the depths of
     both faces, each with the resistance that the first verdict takes for it'
-    (02, request 1). A depth outside the range is not compared.
+    (02, request 1). A depth outside the range is not compared, and of a u beyond
+    10h nothing is said: it 'keeps to depths up to 10h' (request 11).
     """
     depth = Fraction(p, q)
-    if not 1 <= depth <= greatest_depth(seen):
+    if u > greatest_depth(seen) or not 1 <= depth <= greatest_depth(seen):
         return True
     return force_accurate(seen, n, u, depth) and moment_accurate(seen, u, moment_reported, depth)
 
@@ -544,8 +723,8 @@ def refused(number):
 
 def resistance_under(seen, n):
     """The depth of a compressed face under N, and the moment resistance there."""
-    u = depth_returned(seen, n)
-    return u, moment_resistance(seen, u)
+    u = depth_under(seen, n)
+    return u, resistance_at(seen, u)
 
 
 def report_of(section, load):
@@ -774,12 +953,12 @@ def tests_by_value(section, load):
 
 def below_range(seen, n):
     """'11 N below the internal force at depth 1'"""
-    return n < internal_force(seen, 1)
+    return n < force_at_end(seen, 1)
 
 
 def above_range(seen, n):
-    """'12 N above the internal force at depth 10h'"""
-    return n > internal_force(seen, greatest_depth(seen))
+    """'12 is now given where no u up to 30h reaches N' (02, request 11)."""
+    return not reached_by_10h(seen, n) and depth_beyond(seen, n) is None
 
 
 def top_tests(section, n):
@@ -789,8 +968,8 @@ def top_tests(section, n):
 
 
 def face_tests(section, load):
-    """11 and 12 of Check: 11 'for the face compressed', and 12 'when N exceeds the
-    internal force at 10h of either face' (02, request 1)."""
+    """11 and 12 of Check: 11 'for the face compressed', and 12 'in Check for either
+    face' (02, requests 1 and 11)."""
     seen, other = as_compressed(section, load.m), as_other_face(section, load.m)
     return ((11, below_range(seen, load.n)),
             (12, above_range(seen, load.n) or above_range(other, load.n)))
@@ -800,14 +979,15 @@ def find_depth(section, n):
     """Find a depth: the section tests, 8, 11, 12 of the top. Refusal and u."""
     refusal = (first_failing(section_tests(section) + axial_test(n))
                or first_failing(top_tests(section, n)))
-    return (refusal, 0) if refusal else (0, depth_returned(upright(section), n))
+    return (refusal, 0) if refusal else (0, depth_under(upright(section), n))
 
 
 def moment_at_depth(section, u):
-    """Moment at a depth: the section tests, 13; 'the top is compressed here too'."""
+    """Moment at a depth: the section tests, 13; 'the top is compressed here too'.
+    'Now 13 begins above 30h' (02, request 11)."""
     refusal = first_failing(section_tests(section)
-                            + ((13, outside(u, 1, greatest_depth(section))),))
-    return (refusal, 0) if refusal else (0, moment_resistance(section, u))
+                            + ((13, outside(u, 1, last_depth(section))),))
+    return (refusal, 0) if refusal else (0, resistance_at(section, u))
 
 
 def check(section, load):
@@ -920,6 +1100,15 @@ TIE = section_of(200, 300, 35, 500, [(250, 1_500)], links_of(312, 365))  # cotan
 ACCIDENTAL_TIE = TIE._replace(links=links_of(204, 161), situation=ACCIDENTAL)  # 19 and 20 here
 REDUCED_TIE = TIE._replace(links=links_of(305, 283), alpha_cc=85)  # 18 and 19 here
 BOTH_TIE = TIE._replace(links=links_of(124, 157), situation=ACCIDENTAL, alpha_cc=85)  # 23 and 24 again
+TURNED_A = section_of(300, 500, 30, 500, [(50, 1_500)])  # A turned over by hand
+HUMP = TURNED_A._replace(fyk=600)  # its force falls again soon, below many an N that it reached
+COLUMN = section_of(300, 300, 30, 500, [(50, 628), (150, 402), (250, 628)])  # level from 5,629 on but for the rounding
+FALLING = section_of(50, 500, 12, 600, [(150, 20_000)], situation=ACCIDENTAL)  # its force falls from 10h on
+MIXED = section_of(50, 500, 12, 600, [(150, 20_000), (450, 100)], situation=ACCIDENTAL)  # and a layer in tension
+SMALL = section_of(50, 50, 30, 500, [(10, 100), (40, 150)])
+LARGE = section_of(2_000, 2_000, 90, 600, [(50, 20_000), (1_950, 20_000)] * 8)
+SIXTEEN = section_of(  # layers near both faces and inside, some equal depths, sixteen in all
+    400, 700, 40, 500, [(50 + 40 * (place // 2), 100 + 10 * place) for place in range(PLACES)])
 EXAMPLE = bytes.fromhex(
     "0000016F" "000000000000012C" "00000000000001F4" "000000000000001E"
     "00000000000001F4" "000000000BEBC200" "0000000000013880" "000001C2000005DC")
@@ -949,6 +1138,11 @@ BOTH_EXAMPLE = bytes.fromhex(  # 2 at bit 24, and 85 at bit 25 "after the situat
 BOTH_LIST = ("rec ref u mrd vrd dm as v1 v2 v3 v4 v5 v6\n"
              "1 0 1470 293342640 108564 450 1500 0 0 0 0 0 2\n")
 EXAMPLE_LOAD = Load(0, 200_000_000, 80_000)  # of all five examples
+BEYOND_EXAMPLE = bytes.fromhex(  # A under N 2,505,001 alone (02, request 11)
+    "0000011F" "000000000000012C" "00000000000001F4" "000000000000001E"
+    "00000000000001F4" "0000000000263929" "000001C2000005DC")
+BEYOND_LIST = ("rec ref u mrd vrd dm as v1 v2 v3 v4 v5 v6\n"
+               "1 0 5001 98894393 0 0 0 0 2 2 2 0 2\n")
 
 
 def equilibrium_rows():
@@ -970,12 +1164,12 @@ def equilibrium_rows():
         ("A, N 2,505,000: u 5,000", find_depth(SECTION_A, 2_505_000), (0, 5_000)),
         ("A, N 2,505,000: MRd", at_end.mrd, 99_000_000),
         ("A, N 2,505,000: verdicts two to four", at_end.verdicts[1:4], (2, 2, 2)),
-        ("A, N 2,505,001: refusal 12", find_depth(SECTION_A, 2_505_001), (12, 0)),
+        ("A, N 2,505,001: u 5,001, no longer 12", find_depth(SECTION_A, 2_505_001), (0, 5_001)),
     ]
 
 
 def both_faces_rows():
-    """Request 1 of 02: verdict one and refusal 12 of both faces."""
+    """Request 1 of 02: verdict one of both faces, and 11."""
     def first_verdicts(section, n, *ms):
         return [check(section, Load(n, m, 0)).verdicts[0] for m in ms]
 
@@ -998,10 +1192,8 @@ def both_faces_rows():
         ("A, force at depth 1 of both faces",
          internal_force(turned_over(a), 1), internal_force(a, 1)),
         ("A, N -651,691: 11 for either M", refusals(0, -651_691) + refusals(-1, -651_691), [11, 11]),
-        ("A, M 0: 12 from 2,505,001", refusals(0, 2_505_000, 2_505_001), [0, 12]),
-        ("A, M -1: 12 from 2,505,001", refusals(-1, 2_505_000, 2_505_001), [0, 12]),
-        ("A from the bottom: last N", [above_range(turned_over(a), n) for n in (3_052_170, 3_052_171)], [False, True]),
-        ("A, M -1: 12 there too", refusals(-1, 3_052_170, 3_052_171), [12, 12]),
+        ("A from the bottom: last N up to 10h",
+         [reached_by_10h(turned_over(a), n) for n in (3_052_170, 3_052_171)], [True, False]),
         ("50 x 50, N 0: both faces", faces(narrow, 0, 0), (9, -2_785_222, 475, 985_713)),
         ("50 x 50, N 0: M at and about both ends, and the farthest fail",
          set(first_verdicts(narrow, 0, -most, -2_785_223, -2_785_222, -2_785_221, -985_714, -985_713, -985_712, -1, 0, 1,
@@ -1114,7 +1306,8 @@ def link_refusal_rows():
         ("27 before 28", refusals(area=0, spacing=0), in_all(27)),
         ("28 before 29", refusals(spacing=0, n=1), in_all(28)),
         ("29 before 11", refusals(n=-651_691), in_all(29)),
-        ("29 before 12", refusals(n=2_505_001), in_all(29)),
+        ("29 before a depth beyond 10h", refusals(n=2_505_001), in_all(29)),
+        ("29 before 12", refusals(n=3_441_001), in_all(29)),
         ("29 before 25", refusals(n=1, room=0)[2], 29),
         ("absent links, whatever their numbers", refusals(area=0, spacing=0, n=1, present=0), in_all(0)),
         ("Find a depth ignores links", find_depth(with_links(SECTION_A, 0, 0), 1), find_depth(SECTION_A, 1)),
@@ -1160,7 +1353,7 @@ def strength_rows():
         70: ((4_200, 4_666, 43_478), (5_250, 5_833, 50_000)),
         90: ((4_800, 6_000, 43_478), (6_000, 7_500, 50_000)),
     }
-    rows = [(f"fck {fck}, situation {situation}: f, g and s", materials(fck, 500, situation)[3:], expected)
+    rows = [(f"fck {fck}, situation {situation}: f, g and s", materials(fck, 500, situation)[3:6], expected)
             for fck, both in strengths.items() for situation, expected in zip(FACTORS, both)]
     return rows + [
         ("T, E and L have no factor", materials(55, 500, ACCIDENTAL)[:3], (42, 620, 63)),
@@ -1182,9 +1375,10 @@ def accidental_rows():
         ("accidental A, M -1: the layer alone",
          rounded_down(layer_moment(turned, counted(turned)[0], 405)), -49_259_260),
         ("accidental A, the least N", [find_depth(a, n) for n in (-749_400, -749_401)], [(0, 1), (11, 0)]),
-        ("accidental A, the last N", [find_depth(a, n) for n in (3_105_000, 3_105_001)], [(0, 5_000), (12, 0)]),
-        ("accidental A from the bottom: last N",
-         [above_range(turned, n) for n in (3_750_000, 3_750_001)], [False, True]),
+        ("accidental A, the last N up to 10h",
+         [find_depth(a, n) for n in (3_105_000, 3_105_001)], [(0, 5_000), (0, 5_001)]),
+        ("accidental A from the bottom: last N up to 10h",
+         [find_depth(turned, n) for n in (3_750_000, 3_750_001)], [(0, 5_000), (0, 5_001)]),
         ("accidental A: Moment at depth 5,000", moment_at_depth(a, 5_000), (0, 129_000_000)),
     ]
 
@@ -1256,9 +1450,9 @@ def reduced_strength_rows():
     twice = [90 * materials(fck, 500, PERSISTENT).f // 100 for fck in (16, 80)]
     return rows + [
         ("one rounding down is not two: 960 and 4,080", twice, [959, 4_079]),
-        ("fck 55, αcc 95", materials(55, 500, PERSISTENT, 95), (42, 620, 63, 3_396, 3_483, 43_478)),
-        ("no αcc in T, E, L and s", {materials(90, 600, ACCIDENTAL, alpha_cc)[:3] + materials(
-            90, 600, ACCIDENTAL, alpha_cc)[5:] for alpha_cc in ALPHAS}, {(50, 520, 56, 60_000)}),
+        ("fck 55, αcc 95", materials(55, 500, PERSISTENT, 95), (42, 620, 63, 3_396, 3_483, 43_478, 360)),
+        ("no αcc in T, E, L, s and D", {materials(90, 600, ACCIDENTAL, alpha_cc)[:3] + materials(
+            90, 600, ACCIDENTAL, alpha_cc)[5:] for alpha_cc in ALPHAS}, {(50, 520, 56, 60_000, 460)}),
         ("80/1.2 is 100/1.5", [materials(fck, 500, ACCIDENTAL, 80)[3:5] for fck in CLASSES],
          [materials(fck, 500, PERSISTENT)[3:5] for fck in CLASSES]),
     ]
@@ -1278,8 +1472,10 @@ def reduced_rows():
         ("αcc 85, N 0: both faces", faces(a), (1_598, 251_755_182, 428, 5_339_334)),
         ("αcc 85, M -1: both faces", faces(a, -1), (428, 5_339_334, 1_598, 251_755_182)),
         ("αcc 85, the least N", [find_depth(a, n) for n in (-651_762, -651_763)], [(0, 1), (11, 0)]),
-        ("αcc 85, the last N", [find_depth(a, n) for n in (2_145_000, 2_145_001)], [(0, 5_000), (12, 0)]),
-        ("αcc 85 from the bottom: last N", [above_range(turned, n) for n in (2_692_170, 2_692_171)], [False, True]),
+        ("αcc 85, the last N up to 10h",
+         [find_depth(a, n) for n in (2_145_000, 2_145_001)], [(0, 5_000), (0, 5_001)]),
+        ("αcc 85 from the bottom: last N up to 10h",
+         [find_depth(turned, n) for n in (2_692_170, 2_692_171)], [(0, 5_000), (0, 5_001)]),
         ("αcc 80, N 0: both faces", faces(a._replace(alpha_cc=80)), (1_698, 249_155_986, 431, 4_903_221)),
         ("αcc 99, N 0: both faces", faces(a._replace(alpha_cc=99)), (1_372, 257_647_244, 420, 6_542_988)),
         ("accidental, αcc 85, N 0: both faces", faces(BOTH_A), (1_470, 293_342_640, 415, 6_387_061)),
@@ -1381,6 +1577,226 @@ def both_record_rows():
     ]
 
 
+def strain_line_rows():
+    """Request 11 of 02: D of each class, and that both pages have the same stress at 10h."""
+    above_50 = {55: 360, 60: 380, 70: 400, 80: 440, 90: 460}
+
+    def stresses(fck, situation, height):
+        mat = materials(fck, 500, situation)
+        layers = [Layer(depth, 1) for depth in range(1, height)]
+        return ([Fraction(*stress_beyond(mat, height, layer.depth, 10 * height)) for layer in layers],
+                [steel_stress(mat, layer, 10 * height) for layer in layers])
+
+    at_10h = [stresses(fck, situation, height) for fck in CLASSES for situation in FACTORS for height in (50, 211)]
+    return [(f"fck {fck}: D", materials(fck, 500, PERSISTENT).D, above_50.get(fck, 350)) for fck in CLASSES] + [
+        ("both pages have the same stress at 10h", [beyond for beyond, _ in at_10h], [up_to for _, up_to in at_10h]),
+        ("A: both pages have the same force and moment at 10h",
+         (force_beyond(SECTION_A, 5_000), moment_beyond(SECTION_A, 5_000)), (2_505_000, 99_000_000)),
+    ]
+
+
+def depths_of(section, *ns):
+    """What Find a depth answers for each N: u, or the refusal as a negative number."""
+    return [u if refusal == 0 else -refusal for refusal, u in (find_depth(section, n) for n in ns)]
+
+
+def beyond_rows():
+    """Request 11 of 02: A and the same turned over by hand, depth by depth."""
+    a, turned, mat = SECTION_A, TURNED_A, materials_of(SECTION_A)
+    layer = counted(a)[0]
+    return [
+        ("A, N 2,505,000 and 2,505,001", depths_of(a, 2_505_000, 2_505_001), [5_000, 5_001]),
+        ("A, force at 5,001 and 5,002", [force_beyond(a, u) for u in (5_001, 5_002)], [2_505_647, 2_506_295]),
+        ("A, N 2,505,647 and 2,505,648", depths_of(a, 2_505_647, 2_505_648), [5_001, 5_002]),
+        ("A at 5,001: the forces of concrete and layer",
+         (concrete_force_beyond(mat, a, 5_001), layer_force_beyond(mat, 500, layer, 5_001)), (2_400_480, 105_167)),
+        ("A at 5,001: their moments, and not 105,167 times -200",
+         (concrete_moment_beyond(mat, a, 5_001), layer_moment_beyond(mat, 500, layer, 5_001)),
+         (119_927_980, -21_033_587)),
+        ("A: the block to h and no deeper, its force and moment",
+         [(concrete_force_beyond(mat, a, u), concrete_moment_beyond(mat, a, u)) for u in (6_249, 6_250, 6_251, 15_000)],
+         [(2_999_520, 119_980), (3_000_000, 0), (3_000_000, 0), (3_000_000, 0)]),
+        ("A: Moment at 10h, 10h + 1 and 30h",
+         [moment_at_depth(a, u) for u in (5_000, 5_001, 15_000)], [(0, 99_000_000), (0, 98_894_393), (0, -88_200_000)]),
+        ("A: 13 above 30h, for 0 and far above",
+         [moment_at_depth(a, u) for u in (15_001, 0, 2**63, 2**64 - 1)], [(13, 0)] * 4),
+        ("A, 30h reached exactly is no 12", depths_of(a, 3_440_993, 3_440_994, 3_441_000, 3_441_001),
+         [14_999, 15_000, 15_000, -12]),
+        ("A turned, N 3,652,170 and 3,652,171", depths_of(turned, 3_652_170, 3_652_171), [6_250, -12]),
+        ("A turned, N at most and above the force at 10h", depths_of(turned, 3_052_170, 3_052_171), [5_000, 5_001]),
+        ("A turned: the force rises, is level and falls again",
+         [force_beyond(turned, u) for u in (6_249, 6_250, 10_756, 10_757, 15_000)],
+         [3_651_690, 3_652_170, 3_652_170, 3_652_164, 3_609_000]),
+        ("A turned: Moment at 5,001, 6,250 and 30h", [moment_at_depth(turned, u)[1] for u in (5_001, 6_250, 15_000)],
+         [250_361_980, 130_434_000, 121_800_000]),
+        ("A turned by hand and by M", check(a, Load(3_052_171, -1, 0))[1:3], (5_001, 250_361_980)),
+    ]
+
+
+def beyond_face_rows():
+    """Request 11 of 02: Check with one face or both beyond 10h."""
+    def faces(section, n, m=0):
+        return check(section, Load(n, m, 0))[:5]
+
+    def refusals(section, *ns):
+        return [{check(section, Load(n, m, 0)).refusal for m in (0, -1)} for n in ns]
+
+    a = SECTION_A
+    mixed = check(MIXED, Load(4_500_000, 0, 0))
+    return [
+        ("A, N 2,505,001: one face up to 10h", faces(a, 2_505_001), (0, 5_001, 98_894_393, 3_860, 307_561_680)),
+        ("A, N 3,052,170: the bottom at 10h", faces(a, 3_052_170, -1), (0, 5_000, 250_434_000, 5_907, -4_461_057)),
+        ("A, N 3,052,171: both faces beyond", faces(a, 3_052_171), (0, 5_908, -4_585_991, 5_001, 250_361_980)),
+        ("A, N 3,441,000: both faces", faces(a, 3_441_000), (0, 15_000, -88_200_000, 5_811, 179_413_756)),
+        ("A, N 3,441,000, M -1: both faces", faces(a, 3_441_000, -1), (0, 5_811, 179_413_756, 15_000, -88_200_000)),
+        ("A, N 3,441,001: 12 for both signs of M", refusals(a, 3_441_000, 3_441_001, 3_652_171), [{0}, {12}, {12}]),
+        ("A, N 3,441,000: M from -179,413,756",
+         verdicts_under(a, 1, (3_441_000, -179_413_756, 0), (3_441_000, -179_413_757, 0)), [PASS, FAIL]),
+        ("A, N 3,441,000: M to -88,200,000",
+         verdicts_under(a, 1, (3_441_000, -88_200_000, 0), (3_441_000, -88_199_999, 0)), [PASS, FAIL]),
+        ("A, N 3,441,000: all else", check(a, Load(3_441_000, -10**8, 7))[5:], (0, 0, 0, 0, 0, (0, 2, 2, 2, 0, 2))),
+        ("tension layers, and the other face beyond", mixed,
+         (0, 2_203, 473_019_290, 5_035, -402_077_838, 16_572, 450, 100, 0, 0, (1, 1, 0, 0, 1, 2))),
+        ("the same turned over has none", check(MIXED, Load(4_500_000, -1, 0))[1:8],
+         (5_035, -402_077_838, 2_203, 473_019_290, 0, 0, 0)),
+        ("12 from the force at 10h on", depths_of(FALLING, 10_000_000, 10_000_001), [5_000, -12]),
+        ("12 there: the force falls", [force_at(FALLING, u) for u in (5_000, 5_001, 15_000)],
+         [10_000_000, 9_998_920, 7_810_000]),
+        ("12 for either M by the bottom", refusals(FALLING, 6_690_000, 6_690_001), [{0}, {12}]),
+        ("A, N 2,505,001: what it prints", list_text(BEYOND_EXAMPLE), BEYOND_LIST),
+        ("accuracy says nothing of a depth beyond 10h", accuracy_holds(a, 2_505_001, 5_001, 0, 5_000, 1), True),
+    ]
+
+
+def beyond_case_rows():
+    """Request 11 of 02: the lowest and the highest section, both situations and αcc."""
+    def faces(section, *ns):
+        return [check(section, Load(n, 0, 0))[:5] for n in ns]
+
+    refused_12 = (12, 0, 0, 0, 0)
+    return [
+        ("50 x 50", faces(SMALL, 104_478, 104_479, 135_400, 135_401),
+         [(0, 500, 537_170, 429, 1_176_343), (0, 501, 534_083, 429, 1_176_343),
+          (0, 1_500, -105_000, 619, 678_553), refused_12]),
+        ("50 x 50: Moment at 30h and above",
+         [moment_at_depth(SMALL, u) for u in (1_500, 1_501)], [(0, -105_000), (13, 0)]),
+        ("2,000 x 2,000", faces(LARGE, 217_600_000, 217_600_001, 319_573_328, 319_573_329),
+         [(0, 20_000, 115_408_000_000, 20_000, 115_408_000_000), (0, 20_001, 115_401_067_892, 20_001, 115_401_067_892),
+          (0, 60_000, 23_026_986_664, 60_000, 23_026_986_664), refused_12]),
+        ("accidental A", faces(ACCIDENTAL_A, 3_105_001, 3_750_001, 4_191_000, 4_191_001),
+         [(0, 5_001, 128_876_389, 3_925, 369_015_000), (0, 5_892, 7_534_441, 5_001, 299_909_976),
+          (0, 15_000, -88_200_000, 5_735, 220_884_600), refused_12]),
+        ("αcc 85", faces(REDUCED_A, 2_145_001, 2_692_171, 2_991_000, 2_991_001),
+         [(0, 5_001, 80_905_196, 3_658, 285_172_667), (0, 6_039, -24_865_787, 5_001, 232_372_783),
+          (0, 15_000, -88_200_000, 5_733, 178_805_843), refused_12]),
+        ("accidental, αcc 85", faces(BOTH_A, 2_655_001, 3_300_001, 3_628_500, 3_628_501),
+         [(0, 5_001, 106_389_892, 3_735, 341_627_910), (0, 6_026, -17_906_019, 5_001, 277_423_479),
+          (0, 15_000, -88_200_000, 5_645, 219_670_590), refused_12]),
+    ]
+
+
+def beyond_shape_rows():
+    """Request 11 of 02: a force that falls again, one of sixteen layers, one that is level."""
+    def faces(section, *ns):
+        return [check(section, Load(n, 0, 0))[:5] for n in ns]
+
+    return [
+        ("a force that falls again: halving would answer 12 for 3,700,000",
+         depths_of(HUMP, 3_700_000, 3_782_595, 3_782_596), [6_078, 6_250, -12]),
+        ("a force that falls again: at 6,077, 6,078, 6,250, 6,576, 6,577, 10,000 and 30h",
+         [force_beyond(HUMP, u) for u in (6_077, 6_078, 6_250, 6_576, 6_577, 10_000, 15_000)],
+         [3_699_555, 3_700_035, 3_782_595, 3_782_595, 3_782_542, 3_665_000, 3_609_000]),
+        ("sixteen layers: 10h is passed over, as its force is 7,146,330.8",
+         depths_of(SIXTEEN, 7_146_330, 7_146_331), [6_999, 7_001]),
+        ("sixteen layers: to the greatest force and above", depths_of(SIXTEEN, 8_619_593, 8_619_594), [8_750, -12]),
+        ("sixteen layers: both faces", faces(SIXTEEN, 8_368_640, 8_368_641),
+         [(0, 8_453, 248_820_542, 21_000, -118_540_800), (12, 0, 0, 0, 0)]),
+        ("a level force: its least depth", depths_of(COLUMN, 2_380_299, 2_380_300, 2_380_301), [5_629, 5_875, -12]),
+        ("a level force: its parts are rounded, so that few depths reach the last N, and not 30h",
+         [force_beyond(COLUMN, u) for u in (5_628, 5_629, 5_874, 5_875, 5_876, 9_000)],
+         [2_380_294, 2_380_299, 2_380_299, 2_380_300, 2_380_299, 2_380_299]),
+        ("a level force: both faces", faces(COLUMN, 2_380_300), [(0, 5_875, 10_048_000, 5_875, 10_048_000)]),
+    ]
+
+
+def beyond_class_rows():
+    """Request 11 of 02: of each class the greatest N of A, all of 30h, and of A turned over, with the depth."""
+    of_class = {
+        12: ((1_641_000, -88_200_000), (1_852_170, 6_250)), 16: ((2_040_000, -88_200_000), (2_251_170, 6_250)),
+        20: ((2_440_500, -88_200_000), (2_651_670, 6_250)), 25: ((2_940_000, -88_200_000), (3_151_170, 6_250)),
+        30: ((3_441_000, -88_200_000), (3_652_170, 6_250)), 35: ((3_940_500, -88_200_000), (4_151_670, 6_250)),
+        40: ((4_440_000, -88_200_000), (4_651_170, 6_250)), 45: ((4_941_000, -88_200_000), (5_152_170, 6_250)),
+        50: ((5_440_500, -88_200_000), (5_651_670, 6_250)), 55: ((5_801_925, -87_885_000), (6_014_670, 6_350)),
+        60: ((6_150_818, -90_163_637), (6_352_170, 6_452)), 70: ((6_759_729, -91_945_946), (6_952_170, 6_667)),
+        80: ((7_286_472, -97_394_595), (7_451_670, 6_897)), 90: ((7_702_320, -100_464_000), (7_852_170, 7_143)),
+    }
+    rows = []
+    for fck, ((most, moment), (turned_most, turned_u)) in of_class.items():
+        a, turned = SECTION_A._replace(fck=fck), TURNED_A._replace(fck=fck)
+        rows += [
+            (f"fck {fck}: A to {most}", depths_of(a, most, most + 1), [15_000, -12]),
+            (f"fck {fck}: A, force and moment at 30h", (force_beyond(a, 15_000), moment_at_depth(a, 15_000)),
+             (most, (0, moment))),
+            (f"fck {fck}: A turned to {turned_most}", depths_of(turned, turned_most, turned_most + 1), [turned_u, -12]),
+        ]
+    return rows
+
+
+def in_fractions(section, u):
+    """Force and moment beyond 10h once more, in fractions and in the words of request 11."""
+    mat, height, x = materials_of(section), section.height, Fraction(u, 10)
+    limit, block = Fraction(mat.s, 100), min(Fraction(mat.L, 80) * x, Fraction(height))
+    parts = [(Fraction(mat.f, 100) * section.width * block, (height - block) / 2)]
+    for depth, area in counted(section):
+        stress = mat.D * mat.E * (x - depth) / (mat.E * x - (mat.E - mat.D) * height)
+        parts.append((area * max(-limit, min(limit, stress)), Fraction(height, 2) - depth))
+    return sum(floor(force) for force, _ in parts), sum(floor(force * arm) for force, arm in parts)
+
+
+def random_column(rng):
+    """A section so low that each of its depths can be asked; one in two is symmetric, and its force often level."""
+    height = rng.randint(50, 110)
+    layers = [(rng.randint(1, height - 1), rng.randint(1, 20_000)) for _ in range(rng.randint(1, 8))]
+    if rng.random() < 0.5:
+        layers += [(height - depth, area) for depth, area in layers]
+    return section_of(rng.randint(50, 400), height, rng.choice(CLASSES), rng.randint(400, 600), layers,
+                      situation=rng.choice(tuple(FACTORS)), alpha_cc=rng.choice(ALPHAS))
+
+
+def searched(rng, column):
+    """The column's N, at and about its greatest force, its forces and that at 10h: (N, depth, plain depth)."""
+    forces = forces_beyond(column)
+    ns = [max(forces) + more for more in (-2, -1, 0, 1, 2)] + [floor(force_at(column, 10 * column.height)) + 1]
+    ns += [rng.choice(forces) + more for more in (-1, 0, 1) for _ in range(3)]
+    return [(n, depth_beyond(column, n), plain_depth_beyond(column, n)) for n in ns]
+
+
+def search_rows(rng):
+    """Request 11 of 02: the search beyond 10h beside a look at each depth, for random columns."""
+    depths, mosts, bounds, parts, met = [], [], [], [], {}
+    for column in (random_column(rng) for _ in range(80)):
+        found, forces = searched(rng, column), forces_beyond(column)
+        depths += [(column, n) for n, u, plain in found if u != plain]
+        mosts += [column] if greatest_force_beyond(column) != max(forces) else []
+        a, u, b = sorted(rng.sample(depths_beyond(column), 3))
+        bounds += [(column, a, u, b)] if force_beyond(column, u) > most_force_between(column, a, b) else []
+        parts += [(column, u)] if in_fractions(column, u) != (force_beyond(column, u), moment_beyond(column, u)) else []
+        level = len(set(forces[-100:])) < 10  # of the last hundred depths, whose forces differ by rounding alone
+        for name, times in (("N reached", sum(u is not None for _, u, _ in found)),
+                            ("N not reached", sum(u is None for _, u, _ in found)),
+                            ("N reached, and not at 30h", sum(u is not None and forces[-1] < n for n, u, _ in found)),
+                            ("level force", level)):
+            met[name] = met.get(name, 0) + times
+    print("columns at random:", ", ".join(f"{name} {times}" for name, times in met.items()))
+    return [
+        ("the search finds the depth that a look at each one finds", depths, []),
+        ("the greatest force of all depths", mosts, []),
+        ("no force above the bound of its interval", bounds, []),
+        ("force and moment in whole numbers and in fractions", parts, []),
+        ("the columns met all that was meant", [name for name, times in met.items() if not times], []),
+    ]
+
+
 def block_rows():
     """Ticket 5: 80 times the depth factor and 1,000 times the strength factor of each class."""
     above_50 = {55: (63, 975), 60: (62, 950), 70: (60, 900), 80: (58, 850), 90: (56, 800)}
@@ -1428,15 +1844,19 @@ def sequence_rows():
 
 
 def main():
-    """Print every reference case; exit status 1 where one differs."""
+    """Print every reference case; exit status 1 where one differs. A seed can be given, so that it is repeated."""
     failed = 0
+    seed = int(sys.argv[1]) if len(sys.argv) > 1 else random.SystemRandom().randrange(10**9)
+    print(f"seed {seed}")
     rows = (equilibrium_rows() + both_faces_rows() + clause_rows() + link_rows() + link_verdict_rows()
             + link_refusal_rows() + link_record_rows() + strength_rows() + accidental_rows()
             + accidental_verdict_rows() + situation_refusal_rows()
             + optional_record_rows("situation", ACCIDENTAL_EXAMPLE, ACCIDENTAL_A, ACCIDENTAL_LIST, (3, 32))
             + reduced_strength_rows() + reduced_rows() + reduced_verdict_rows() + alpha_refusal_rows()
             + optional_record_rows("alpha_cc", REDUCED_EXAMPLE, REDUCED_A, REDUCED_LIST, (79, 34))
-            + both_record_rows() + block_rows() + refusal_rows() + sequence_rows())
+            + both_record_rows() + strain_line_rows() + beyond_rows() + beyond_face_rows() + beyond_case_rows()
+            + beyond_shape_rows() + beyond_class_rows() + search_rows(random.Random(seed))
+            + block_rows() + refusal_rows() + sequence_rows())
     for name, computed, expected in rows:
         same = computed == expected
         failed += not same

@@ -52,9 +52,12 @@ def depths_compared(rng, section, u):
 
 
 def check_accuracy(tally, rng, section, load, u, moment, seen):
-    """Demand 3 for one face of an accepted answer, in exact fractions at a few depths."""
+    """Demand 3 for one face of an accepted answer, in exact fractions at a few depths.
+
+    'The accuracy statement keeps to depths up to 10h' (02, request 11), each face for itself.
+    """
     if not 1 <= u <= second.greatest_depth(seen):
-        return  # no depth at all, which the comparison of answers has told
+        return  # beyond 10h it says nothing, and the comparison of answers has told where there is no such depth
     face = "the top" if seen == second.upright(section) else "the bottom"
     for p, q in depths_compared(rng, seen, u):
         tally.require(f"accuracy at {p}/{q} from {face} for u {u} and moment {moment} of "
@@ -63,6 +66,9 @@ def check_accuracy(tally, rng, section, load, u, moment, seen):
 
 
 def check_accuracy_of_faces(tally, rng, section, load, report):
-    """Demand 3 for what Check reports of both faces."""
+    """Demand 3 for what Check reports of both faces, and of the one up to 10h where the other is beyond."""
+    beyond = [u > second.greatest_depth(section) for u in (report.u, report.other_u)]
+    tally.coverage.note_call("accuracy of the face that M compresses alone", beyond == [False, True])
+    tally.coverage.note_call("accuracy of the other face alone", beyond == [True, False])
     check_accuracy(tally, rng, section, load, report.u, report.mrd, second.as_compressed(section, load.m))
     check_accuracy(tally, rng, section, load, report.other_u, report.other_mrd, second.as_other_face(section, load.m))

@@ -13,7 +13,7 @@ int main(void)
     salwoerk_section a = SALWOERK_SECTION_INIT;
     return (int)a.count + (int)a.links.present + (int)a.links.area + (int)a.layers[SALWOERK_LAYERS - 1].area
         + (int)a.grade.situation - SALWOERK_PERSISTENT + (int)a.grade.alpha_cc - SALWOERK_RECOMMENDED_ALPHA_CC
-        + *salwoerk_verdict_clause(SALWOERK_VERDICTS);
+        + *salwoerk_verdict_clause(SALWOERK_VERDICTS) + salwoerk_is_beyond(a.height, 0);
 }
 """
 
@@ -58,15 +58,21 @@ class Library(CommandTest):
         program = self.compiled(EXAMPLES / "check.c", "-std=c99")
         status, text = output_of(program)
         self.assertEqual(status, 0)
-        self.assertEqual(text.splitlines()[0], "u 135.8 mm, MRd 257986051 N mm, VRd,c 86851 N, dm 450 mm, As 1500 mm2")
-        self.assertEqual(text.splitlines()[1], "the other face: u 41.9 mm, MRd 6312569 N mm")
-        self.assertEqual(text.splitlines()[2], "with links: VRd 222308 N, cotangent 2.5")
-        self.assertEqual(text.splitlines()[-2], "9.2.1.1(3), most reinforcement: pass")
-        self.assertEqual(text.splitlines()[-1], "6.2.3, |V| at most the links' resistance, their spacing and ratio: pass")
+        section_a, column = (part.splitlines() for part in text.split("\n\n"))
+        self.assertEqual(section_a[:3], ["u 135.8 mm, MRd 257986051 N mm, VRd,c 86851 N, dm 450 mm, As 1500 mm2",
+                                         "the other face: u 41.9 mm, MRd 6312569 N mm",
+                                         "with links: VRd 222308 N, cotangent 2.5"])
+        self.assertEqual(section_a[-2:], ["9.2.1.1(3), most reinforcement: pass",
+                                          "6.2.3, |V| at most the links' resistance, their spacing and ratio: pass"])
+        self.assertEqual(column[:2], ["u 431.3 mm (compressed over the full height), MRd 169948995 N mm, VRd,c 0 N, dm 0 mm, As 0 mm2",
+                                      "the other face: u 431.3 mm (compressed over the full height), MRd 169948995 N mm"])
+        self.assertEqual([line.split(": ")[1] for line in column[2:]], ["pass", *["not reached"] * 3, "pass", "not reached"])
 
     def test_the_example_in_python(self):
         self.assertEqual(output_of("python3", EXAMPLES / "check.py", SHARED),
-                         (0, "0 1358 257986051 419 6312569 86851 450 1500 25 222308 0 0 0 0 0 0\n"))
+                         (0, "0 1358 257986051 419 6312569 86851 450 1500 25 222308 0 0 0 0 0 0\n"
+                             "0 4313 169948995 4313 169948995 0 0 0 0 0 0 2 2 2 0 2\n"
+                             "u: compressed over the full height\nother_u: compressed over the full height\n"))
 
     def test_the_library_gives_no_other_names(self):
         _, text = output_of("nm", "-D", "--defined-only", SHARED)

@@ -1,5 +1,8 @@
 """Prints the check list of sections: a line of depth, resistances and verdicts for each record.
 
+The depth u is in tenths of a millimetre; where it is more than ten times the height in millimetres, the
+section is compressed over its full height.
+
 The list program is proved and built first where that has not been done since its sources last changed.
 It reads and writes the streams itself; this command starts it and ends with status 0 only where the
 list is whole. Status 1: it is not, and a message says why. Status 2: an argument is not understood.

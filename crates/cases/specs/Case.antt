@@ -20,6 +20,7 @@ use Rattle.section.specs.declared.Accepted.{Accepted}
 use Rattle.section.specs.declared.Accepted.the-variants as section
 use Rattle.section.specs.Section.{layersOf, counted, linksOf}
 use Rattle.section.specs.Refusals as sections
+use Rattle.beyond.specs.Force as beyond
 use Rattle.equilibrium.specs.Force.{at, internalForce, steelResistance}
 use Rattle.section.specs.Turned.{turned}
 use Rattle.equilibrium.specs.declared.Depth.{Depth}
@@ -51,6 +52,8 @@ pub data Case : Type 0 where
   force : Section → ℕ → ℤ → Case
   -- the same for the section turned over
   turnedForce : Section → ℕ → ℤ → Case
+  -- a section and a depth u beyond 10h; then the internal force there
+  forceBeyond : Section → ℕ → ℤ → Case
   -- Moment at a depth: a section and u; then the refusal and the moment
   resists : Section → ℕ → ℕ → ℤ → Case
   -- a section turned over and a depth u; then what its layers alone resist
@@ -73,8 +76,8 @@ sameℤ a b = leZ a b && leZ b a
 
 abbrev sameMaterials : Materials → Materials → Bool
 sameMaterials a b =
-    eqb (a .fck) (b .fck) && eqb (a .fyk) (b .fyk) && eqb (a .t) (b .t) && eqb (a .e) (b .e) && eqb (a .l) (b .l) && eqb (a .f) (b .f) && eqb (a .g) (b .g)
-    && eqb (a .s) (b .s) && eqb (a .crd) (b .crd)
+    eqb (a .fck) (b .fck) && eqb (a .fyk) (b .fyk) && eqb (a .t) (b .t) && eqb (a .e) (b .e) && eqb (a .d) (b .d) && eqb (a .l) (b .l) && eqb (a .f) (b .f)
+    && eqb (a .g) (b .g) && eqb (a .s) (b .s) && eqb (a .crd) (b .crd)
 
 abbrev isMaterial : Answer → Materials → Bool
 isMaterial (materials.Known m) n = sameMaterials m n
@@ -88,6 +91,10 @@ isRefused (materials.Refused j) k = eqb j k
 abbrev forceIs : List Layer → Accepted → ℕ → ℤ → Bool
 forceIs ls (section.Ready x) u z = isSame (internalForce x ls (at u)) (integer z)
 forceIs ls (section.Refused k) u z = false
+
+abbrev forceBeyondIs : List Layer → Accepted → ℕ → ℤ → Bool
+forceBeyondIs ls (section.Ready x) u z = sameℤ (beyond.internalForce x ls u) z
+forceBeyondIs ls (section.Refused k) u z = false
 
 abbrev turnedForceIs : List Layer → Accepted → ℕ → ℤ → Bool
 turnedForceIs ls (section.Ready x) u z = forceIs (turned (x .h) ls) (section.Ready x) u z
@@ -123,6 +130,7 @@ holds (material grade m) = isMaterial (materialsOf grade) m
 holds (noMaterial grade k) = isRefused (materialsOf grade) k
 holds (tests s k) = eqb (sections.refusalNumber (sections.accepted (counted s))) k
 holds (force s u z) = forceIs (layersOf s) (sections.accepted (counted s)) u z
+holds (forceBeyond s u z) = forceBeyondIs (layersOf s) (sections.accepted (counted s)) u z
 holds (turnedForce s u z) = turnedForceIs (layersOf s) (sections.accepted (counted s)) u z
 holds (resists s u k m) = eqb (moment.refusalNumber (moment.momentAt s u)) k && sameℤ (moment.momentFound (moment.momentAt s u)) m
 holds (turnedSteel s u z) = turnedGives (layersOf s) (sections.accepted (counted s)) u z

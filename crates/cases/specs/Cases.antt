@@ -1,8 +1,8 @@
 -- Worked cases; that they hold, one computed test over the definitions, is `cases-hold`, `depths-hold` and `checks-hold` of the proofs.
 -- Every case of document 01 that is marked (P) has its rows here, in 01's order, those of Find a depth and of Check in lists of their own.
 -- Beside them stand the example of 01's list, the refusals 11 and 12 also as Check gives them, every class of the table with the letters
--- that follow from it, and both ends of the steel's range with what lies beyond; at the end, the cases of 02's requests 1, 3, 8 and 10,
--- with numbers of the paper or of the second implementation. Assumes nothing.
+-- that follow from it, and both ends of the steel's range with what lies beyond; at the end, the cases of 02's requests 1, 3, 8, 10 and
+-- 11, with numbers of the paper or of the second implementation. Assumes nothing.
 use Prim.Native.Nat.{ℕ}
 use mathlib.Core.List.{List, [], _∷_, _++_}
 use lib.IntN.{ℤ, pos, negℤ}
@@ -15,8 +15,9 @@ use Rattle.links.specs.declared.Truss.{Truss}
 use Rattle.clauses.specs.declared.Face.{Face}
 use Rattle.clauses.specs.declared.Listed.{Listed}
 use Rattle.clauses.specs.Check.{refusedListed}
-use Rattle.cases.specs.Case.{Case, Case.material, Case.noMaterial, Case.tests, Case.force, Case.turnedForce, Case.resists, Case.turnedSteel}
-use Rattle.cases.specs.Case.{Case.sizeFactor, Case.shearNumbers, Case.linkTested, Case.written, Case.read, Case.struts, DepthRow, CheckRow, withLinks}
+use Rattle.cases.specs.Case.{Case, Case.material, Case.noMaterial, Case.tests, Case.force, Case.turnedForce, Case.forceBeyond, Case.resists}
+use Rattle.cases.specs.Case.{Case.turnedSteel, Case.sizeFactor, Case.shearNumbers, Case.linkTested, Case.written, Case.read, Case.struts}
+use Rattle.cases.specs.Case.{DepthRow, CheckRow, withLinks}
 
 -- the situation, αcc, fck and fyk
 abbrev gradeWith : ℤ → ℤ → ℕ → ℕ → Grade
@@ -26,25 +27,25 @@ gradeWith situation alphacc fck fyk = record { fck = pos fck; fyk = pos fyk; sit
 abbrev grade : ℕ → ℕ → Grade
 grade fck fyk = gradeWith (pos 1) (pos 100) fck fyk
 
--- a row with the situation, crd, αcc, fck and fyk; then T, E, L, f, g and s
-abbrev lettersIn : ℕ → ℕ → ℕ → ℕ → ℕ → ℕ → ℕ → ℕ → ℕ → ℕ → ℕ → Case
-lettersIn situation crd alphacc fck fyk t e l f g s =
+-- a row with the situation, crd, αcc, fck and fyk; then T, E, D, L, f, g and s
+abbrev lettersIn : ℕ → ℕ → ℕ → ℕ → ℕ → ℕ → ℕ → ℕ → ℕ → ℕ → ℕ → ℕ → Case
+lettersIn situation crd alphacc fck fyk t e d l f g s =
     material (gradeWith (pos situation) (pos alphacc) fck fyk)
-    record { fck = fck; fyk = fyk; t = t; e = e; l = l; f = f; g = g; s = s; crd = crd }
+    record { fck = fck; fyk = fyk; t = t; e = e; d = d; l = l; f = f; g = g; s = s; crd = crd }
 
 -- persistent, with 100·CRd,c 12, and accidental, with 15
-abbrev lettersWith : ℕ → ℕ → ℕ → ℕ → ℕ → ℕ → ℕ → ℕ → ℕ → Case
-lettersWith alphacc fck fyk t e l f g s = lettersIn 1 12 alphacc fck fyk t e l f g s
+abbrev lettersWith : ℕ → ℕ → ℕ → ℕ → ℕ → ℕ → ℕ → ℕ → ℕ → ℕ → Case
+lettersWith alphacc fck fyk t e d l f g s = lettersIn 1 12 alphacc fck fyk t e d l f g s
 
-abbrev accidentalLettersWith : ℕ → ℕ → ℕ → ℕ → ℕ → ℕ → ℕ → ℕ → ℕ → Case
-accidentalLettersWith alphacc fck fyk t e l f g s = lettersIn 2 15 alphacc fck fyk t e l f g s
+abbrev accidentalLettersWith : ℕ → ℕ → ℕ → ℕ → ℕ → ℕ → ℕ → ℕ → ℕ → ℕ → Case
+accidentalLettersWith alphacc fck fyk t e d l f g s = lettersIn 2 15 alphacc fck fyk t e d l f g s
 
 -- both with αcc 1.00
-abbrev letters : ℕ → ℕ → ℕ → ℕ → ℕ → ℕ → ℕ → ℕ → Case
-letters fck fyk t e l f g s = lettersWith 100 fck fyk t e l f g s
+abbrev letters : ℕ → ℕ → ℕ → ℕ → ℕ → ℕ → ℕ → ℕ → ℕ → Case
+letters fck fyk t e d l f g s = lettersWith 100 fck fyk t e d l f g s
 
-abbrev accidentalLetters : ℕ → ℕ → ℕ → ℕ → ℕ → ℕ → ℕ → ℕ → Case
-accidentalLetters fck fyk t e l f g s = accidentalLettersWith 100 fck fyk t e l f g s
+abbrev accidentalLetters : ℕ → ℕ → ℕ → ℕ → ℕ → ℕ → ℕ → ℕ → ℕ → Case
+accidentalLetters fck fyk t e d l f g s = accidentalLettersWith 100 fck fyk t e d l f g s
 
 -- a section with one layer of 1,500 mm², or as many of its places as are counted
 abbrev oneIn : Grade → ℕ → ℕ → ℕ → ℕ → Section
@@ -65,6 +66,37 @@ one b h fck d = oneIn (grade fck 500) 1 b h d
 -- section A: 300 by 500, fck 30, fyk 500, one layer of 1,500 at 450
 abbrev A : Section
 A = one 300 500 30 450
+
+-- A turned over by hand: the layer at 50
+abbrev overA : Section
+overA = one 300 500 30 50
+
+-- the same with fyk 600
+abbrev hump : Section
+hump = oneIn (grade 30 600) 1 300 500 50
+
+-- 300 by 300, fck 30, fyk 500, three layers; and 50 by 500, fck 12, fyk 600, accidental, two layers
+abbrev column : Section
+column =
+    record {
+      width = pos 300;
+      height = pos 300;
+      grade = grade 30 500;
+      links = noLinks;
+      count = 3;
+      layers = record { depth = 50; area = 628 } ∷ record { depth = 150; area = 402 } ∷ record { depth = 250; area = 628 } ∷ replicate 13 noLayer;
+    }
+
+abbrev mixed : Section
+mixed =
+    record {
+      width = pos 50;
+      height = pos 500;
+      grade = gradeWith (pos 2) (pos 100) 12 600;
+      links = noLinks;
+      count = 2;
+      layers = record { depth = 150; area = 20000 } ∷ record { depth = 450; area = 100 } ∷ replicate 14 noLayer;
+    }
 
 -- A in a situation, with αcc, fyk and a count
 abbrev AWith : ℤ → ℤ → ℕ → ℕ → Section
@@ -179,24 +211,24 @@ cases =
     ∷ sizeFactor 201 1997
     ∷ sizeFactor 1999 1316
     -- (P) f and s, among the letters of every class
-    -- fck fyk   T   E  L    f    g     s
-    ∷ letters 12 500 16 700 64 800 800 43478
-    ∷ letters 16 500 19 700 64 1066 1066 43478
-    ∷ letters 20 500 22 700 64 1333 1333 43478
-    ∷ letters 25 500 26 700 64 1666 1666 43478
-    ∷ letters 30 500 29 700 64 2000 2000 43478
-    ∷ letters 35 500 32 700 64 2333 2333 43478
-    ∷ letters 40 500 35 700 64 2666 2666 43478
-    ∷ letters 45 500 38 700 64 3000 3000 43478
-    ∷ letters 50 500 41 700 64 3333 3333 43478
-    ∷ letters 55 500 42 620 63 3575 3666 43478
-    ∷ letters 60 500 44 580 62 3800 4000 43478
-    ∷ letters 70 500 46 540 60 4200 4666 43478
-    ∷ letters 80 500 48 520 58 4533 5333 43478
-    ∷ letters 90 500 50 520 56 4800 6000 43478
+    -- fck fyk   T   E   D  L    f    g     s
+    ∷ letters 12 500 16 700 350 64 800 800 43478
+    ∷ letters 16 500 19 700 350 64 1066 1066 43478
+    ∷ letters 20 500 22 700 350 64 1333 1333 43478
+    ∷ letters 25 500 26 700 350 64 1666 1666 43478
+    ∷ letters 30 500 29 700 350 64 2000 2000 43478
+    ∷ letters 35 500 32 700 350 64 2333 2333 43478
+    ∷ letters 40 500 35 700 350 64 2666 2666 43478
+    ∷ letters 45 500 38 700 350 64 3000 3000 43478
+    ∷ letters 50 500 41 700 350 64 3333 3333 43478
+    ∷ letters 55 500 42 620 360 63 3575 3666 43478
+    ∷ letters 60 500 44 580 380 62 3800 4000 43478
+    ∷ letters 70 500 46 540 400 60 4200 4666 43478
+    ∷ letters 80 500 48 520 440 58 4533 5333 43478
+    ∷ letters 90 500 50 520 460 56 4800 6000 43478
     -- both ends of the steel's range, and what lies beyond
-    ∷ letters 30 400 29 700 64 2000 2000 34782
-    ∷ letters 30 600 29 700 64 2000 2000 52173
+    ∷ letters 30 400 29 700 350 64 2000 2000 34782
+    ∷ letters 30 600 29 700 350 64 2000 2000 52173
     ∷ noMaterial (grade 30 399) 4
     ∷ noMaterial (grade 30 601) 4
     ∷ noMaterial (grade 31 500) 3
@@ -250,12 +282,12 @@ cases =
     ∷ force accidentalA 1250 (pos 0)
     ∷ resists accidentalA 1250 0 (pos 300000000)
     -- request 8: the letters
-    -- fck fyk   T   E  L    f    g     s
-    ∷ accidentalLetters 30 500 29 700 64 2500 2500 50000
-    ∷ accidentalLetters 55 500 42 620 63 4468 4583 50000
-    ∷ accidentalLetters 70 500 46 540 60 5250 5833 50000
-    ∷ accidentalLetters 90 500 50 520 56 6000 7500 50000
-    ∷ accidentalLetters 90 600 50 520 56 6000 7500 60000
+    -- fck fyk   T   E   D  L    f    g     s
+    ∷ accidentalLetters 30 500 29 700 350 64 2500 2500 50000
+    ∷ accidentalLetters 55 500 42 620 360 63 4468 4583 50000
+    ∷ accidentalLetters 70 500 46 540 400 60 5250 5833 50000
+    ∷ accidentalLetters 90 500 50 520 460 56 6000 7500 50000
+    ∷ accidentalLetters 90 600 50 520 460 56 6000 7500 60000
     -- request 8: 32 beside both ends of its range; 4 before 32, 32 before 5
     ∷ noMaterial (gradeWith (pos 0) (pos 100) 30 500) 32
     ∷ noMaterial (gradeWith (pos 3) (pos 100) 30 500) 32
@@ -275,16 +307,16 @@ cases =
     ∷ force reducedA 1599 (pos 222)
     ∷ resists reducedA 1598 0 (pos 251755182)
     -- request 10: the letters, after αcc; rounded twice f would be 959 with fck 16 and 4,079 with fck 80
-    -- αcc fck fyk   T   E  L    f    g     s
-    ∷ lettersWith 85 30 500 29 700 64 1700 1700 43478
-    ∷ lettersWith 90 16 500 19 700 64 960 960 43478
-    ∷ lettersWith 90 80 500 48 520 58 4080 4800 43478
-    ∷ lettersWith 95 55 500 42 620 63 3396 3483 43478
-    ∷ lettersWith 85 90 500 50 520 56 4080 5100 43478
-    ∷ lettersWith 80 12 400 16 700 64 640 640 34782
-    ∷ lettersWith 80 90 600 50 520 56 3840 4800 52173
-    ∷ accidentalLettersWith 85 30 500 29 700 64 2125 2125 50000
-    ∷ accidentalLettersWith 80 90 600 50 520 56 4800 6000 60000
+    -- αcc fck fyk   T   E   D  L    f    g     s
+    ∷ lettersWith 85 30 500 29 700 350 64 1700 1700 43478
+    ∷ lettersWith 90 16 500 19 700 350 64 960 960 43478
+    ∷ lettersWith 90 80 500 48 520 440 58 4080 4800 43478
+    ∷ lettersWith 95 55 500 42 620 360 63 3396 3483 43478
+    ∷ lettersWith 85 90 500 50 520 460 56 4080 5100 43478
+    ∷ lettersWith 80 12 400 16 700 350 64 640 640 34782
+    ∷ lettersWith 80 90 600 50 520 460 56 3840 4800 52173
+    ∷ accidentalLettersWith 85 30 500 29 700 350 64 2125 2125 50000
+    ∷ accidentalLettersWith 80 90 600 50 520 460 56 4800 6000 60000
     -- request 10: 34 beside both ends of its range; 32 before 34, 34 before 5
     ∷ noMaterial (gradeWith (pos 1) (pos 79) 30 500) 34
     ∷ noMaterial (gradeWith (pos 1) (pos 101) 30 500) 34
@@ -303,6 +335,16 @@ cases =
     ∷ read (recordA 3 (eight 2 ++ eight 85)) 0 76 (pos 2) (pos 85)
     ∷ read (recordA 2 (eight 79)) 34 68 (pos 0) (pos 0)
     ∷ read (recordA 4 (eight 85)) 21 0 (pos 0) (pos 0)
+    -- request 11: A just beyond 10h; turned over by hand, where the force falls again
+    ∷ forceBeyond A 5001 (pos 2505647)
+    ∷ forceBeyond overA 6249 (pos 3651690)
+    ∷ forceBeyond overA 6250 (pos 3652170)
+    ∷ forceBeyond overA 15000 (pos 3609000)
+    -- request 11: Moment at a depth beyond 10h, at 30h and above it (at 10h: above)
+    ∷ resists A 5001 0 (pos 98894393)
+    ∷ resists A 15000 0 (negℤ (pos 88200000))
+    ∷ resists A 15001 13 (pos 0)
+    ∷ resists A 0 13 (pos 0)
     ∷ []
 
 -- the rows of Find a depth
@@ -313,9 +355,9 @@ depthRows =
     -- (P) the least N, and below it
     ∷ finds A (negℤ (pos 651690)) 0 1
     ∷ finds A (negℤ (pos 651691)) 11 0
-    -- (P) the greatest N, and above it
+    -- (P) the greatest N up to 10h, and above it, where 01 had 12 and request 11 has a depth
     ∷ finds A (pos 2505000) 0 5000
-    ∷ finds A (pos 2505001) 12 0
+    ∷ finds A (pos 2505001) 0 5001
     -- request 8: A in the accidental situation
     ∷ finds accidentalA (pos 0) 0 1250
     -- request 10: A with αcc 0.85, the ends of its range too
@@ -323,10 +365,25 @@ depthRows =
     ∷ finds reducedA (negℤ (pos 651762)) 0 1
     ∷ finds reducedA (negℤ (pos 651763)) 11 0
     ∷ finds reducedA (pos 2145000) 0 5000
-    ∷ finds reducedA (pos 2145001) 12 0
+    ∷ finds reducedA (pos 2145001) 0 5001
     -- request 10: 32 before 34, 34 before 5 and before 8
     ∷ finds (AWith (pos 3) (pos 79) 500 0) (pos 500000001) 32 0
     ∷ finds (AWith (pos 1) (pos 79) 500 0) (pos 500000001) 34 0
+    -- request 11: A turned over by hand, where the force falls again after 6,250; A at 30h, and above it
+    ∷ finds overA (pos 3652170) 0 6250
+    ∷ finds overA (pos 3652171) 12 0
+    ∷ finds A (pos 3441000) 0 15000
+    ∷ finds A (pos 3441001) 12 0
+    -- request 11: a force that falls below N again, so that halving would answer 12
+    ∷ finds hump (pos 3700000) 0 6078
+    -- request 11: three layers on both sides of the point that the strain line turns about
+    ∷ finds column (pos 2380299) 0 5629
+    -- request 11: N on either side of the force at 10h, which is 4,315,968.75
+    ∷ finds (one 300 500 55 450) (pos 4315968) 0 4999
+    ∷ finds (one 300 500 55 450) (pos 4315969) 0 5001
+    -- request 11: in the accidental situation, and of the last class
+    ∷ finds accidentalA (pos 3105001) 0 5001
+    ∷ finds (one 300 500 90 450) (pos 5118001) 0 5001
     ∷ []
 
 -- the rows of Check
@@ -336,9 +393,9 @@ checkRows =
     checks A (load (pos 0) (negℤ (pos 1)) (pos 0)) (line (face 419 (pos 6312569)) (face 1358 (pos 257986051)) 14090 50 1500 0 1 0 0 0)
     -- (P) below the least N
     ∷ checks A (load (negℤ (pos 651691)) (pos 0) (pos 0)) (refusedListed 11)
-    -- (P) the greatest N, where verdicts two to four are 2, and above it
+    -- (P) the greatest N up to 10h, where verdicts two to four are 2, and above it, where request 11 has a depth
     ∷ checks A (load (pos 2505000) (pos 0) (pos 0)) (line (face 5000 (pos 99000000)) (face 3860 (pos 307561680)) 0 0 0 0 2 2 2 0)
-    ∷ checks A (load (pos 2505001) (pos 0) (pos 0)) (refusedListed 12)
+    ∷ checks A (load (pos 2505001) (pos 0) (pos 0)) (line (face 5001 (pos 98894393)) (face 3860 (pos 307561680)) 0 0 0 0 2 2 2 0)
     -- the example of the list
     ∷ checks A (load (pos 0) (pos 200000000) (pos 80000)) (line (face 1358 (pos 257986051)) (face 419 (pos 6312569)) 86851 450 1500 0 0 0 0 0)
     -- request 1: the hanger passes from 130,314,020 to 130,553,980, and not with no moment
@@ -347,9 +404,9 @@ checkRows =
     ∷ checks A (load (negℤ (pos 651690)) (pos 130314019) (pos 0)) (hanger 1)
     ∷ checks A (load (negℤ (pos 651690)) (pos 130553981) (pos 0)) (hanger 1)
     ∷ checks A (load (negℤ (pos 651690)) (pos 0) (pos 0)) (hanger 1)
-    -- request 1: N that the bottom reaches and the top does not
-    ∷ checks A (load (pos 2505001) (negℤ (pos 1)) (pos 0)) (refusedListed 12)
-    ∷ checks A (load (pos 3052170) (negℤ (pos 1)) (pos 0)) (refusedListed 12)
+    -- request 1: N that the bottom reaches up to 10h and the top does not; the top is beyond 10h by request 11
+    ∷ checks A (load (pos 2505001) (negℤ (pos 1)) (pos 0)) (line (face 3860 (pos 307561680)) (face 5001 (pos 98894393)) 0 0 0 0 2 2 2 0)
+    ∷ checks A (load (pos 3052170) (negℤ (pos 1)) (pos 0)) (line (face 5000 (pos 250434000)) (face 5907 (negℤ (pos 4461057))) 0 0 0 1 2 2 2 0)
     -- request 1: MRd of the top is below −MRd of the bottom, so that no M passes (`none-between`)
     ∷ checks B (load (pos 0) (pos 0) (pos 0)) (line (face 9 (negℤ (pos 2785222))) (face 475 (pos 985713)) 44 1 1500 1 1 0 0 1)
     ∷ checks B (load (pos 0) (negℤ (pos 985713)) (pos 0)) (line (face 475 (pos 985713)) (face 9 (negℤ (pos 2785222))) 2166 49 1500 1 1 0 0 1)
@@ -408,4 +465,20 @@ checkRows =
     (line (face 1470 (pos 293342640)) (face 415 (pos 6387061)) 108564 450 1500 0 0 0 0 0)
     -- request 10: 34 before 5 and before 8
     ∷ checks (AWith (pos 1) (pos 79) 500 0) (load (pos 500000001) (pos 0) (pos 0)) (refusedListed 34)
+    -- request 11: both faces beyond 10h; the top at 30h, and M at its resistance and one beyond
+    ∷ checks A (load (pos 3052171) (pos 0) (pos 0)) (line (face 5908 (negℤ (pos 4585991))) (face 5001 (pos 250361980)) 0 0 0 1 2 2 2 0)
+    ∷ checks A (load (pos 3441000) (pos 0) (pos 0)) (line (face 15000 (negℤ (pos 88200000))) (face 5811 (pos 179413756)) 0 0 0 1 2 2 2 0)
+    ∷ checks A (load (pos 3441000) (negℤ (pos 88200000)) (pos 0))
+    (line (face 5811 (pos 179413756)) (face 15000 (negℤ (pos 88200000))) 0 0 0 0 2 2 2 0)
+    ∷ checks A (load (pos 3441000) (negℤ (pos 88199999)) (pos 0))
+    (line (face 5811 (pos 179413756)) (face 15000 (negℤ (pos 88200000))) 0 0 0 1 2 2 2 0)
+    -- request 11: layers in tension below the face shown, while the other lies beyond 10h; and the other way round
+    ∷ checks mixed (load (pos 4500000) (pos 402077838) (pos 16572))
+    (line (face 2203 (pos 473019290)) (face 5035 (negℤ (pos 402077838))) 16572 450 100 0 1 0 0 1)
+    ∷ checks mixed (load (pos 4500000) (negℤ (pos 402077838)) (pos 0))
+    (line (face 5035 (negℤ (pos 402077838))) (face 2203 (pos 473019290)) 0 0 0 1 2 2 2 1)
+    -- request 11: 12 of the top alone, for both signs of M; and of the bottom alone
+    ∷ checks A (load (pos 3441001) (pos 0) (pos 0)) (refusedListed 12)
+    ∷ checks A (load (pos 3441001) (negℤ (pos 1)) (pos 0)) (refusedListed 12)
+    ∷ checks overA (load (pos 3441001) (pos 0) (pos 0)) (refusedListed 12)
     ∷ []

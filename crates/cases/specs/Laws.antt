@@ -7,7 +7,8 @@ use mathlib.Core.Path.{_≡_, refl}
 use lib.IntN.{ℤ, negℤ}
 use lib.Signed.{_<ℤ_}
 use lib.ListN.{length}
-use Rattle.arith.specs.Greatest.{IsGreatest}
+use Rattle.arith.specs.Fraction.{Same}
+use Rattle.arith.specs.Greatest.{IsGreatest, IsLeast}
 use Rattle.section.specs.declared.Layer.{Layer}
 use Rattle.section.specs.declared.Links.{Links}
 use Rattle.section.specs.declared.Section.{Section}
@@ -15,8 +16,13 @@ use Rattle.section.specs.declared.Load.{Load}
 use Rattle.section.specs.declared.Design.{Design}
 use Rattle.section.specs.declared.Accepted.the-variants.{Ready}
 use Rattle.section.specs.Section.{layersOf, Counted, counted, absent, noLinks, countedLinks, linksOf}
-use Rattle.section.specs.Code.Usable.{Usable}
+use Rattle.section.specs.Code.Usable.{Bounded, Usable}
 use Rattle.section.specs.Refusals.{accepted}
+use Rattle.beyond.specs.Force as beyond
+use Rattle.beyond.specs.Depth.{reachedAt, leastReaching}
+use Rattle.beyond.specs.Code.Range.{Beyond}
+use Rattle.beyond.proofs.Intervals as intervals
+use Rattle.equilibrium.specs.Force.{at, stress}
 use Rattle.equilibrium.specs.Refusals.{carries}
 use Rattle.section.specs.Turned.{turned}
 use Rattle.equilibrium.specs.Depth.{findDepth}
@@ -25,6 +31,7 @@ use Rattle.section.proofs.Turned.{usable-turned}
 use Rattle.section.proofs.Usable.{usable-by}
 use Rattle.equilibrium.proofs.Found as equilibrium
 use Rattle.equilibrium.proofs.DepthOne as depthOne
+use Rattle.equilibrium.proofs.Meeting as meeting
 use Rattle.shear.specs.SizeFactor.{K}
 use Rattle.shear.specs.Shear.{rTest, r, qTest, q}
 use Rattle.arith.proofs.Greatest.{first-only}
@@ -35,6 +42,7 @@ use Rattle.verdicts.specs.Tension.{tensionLayers, As, dm}
 use Rattle.verdicts.specs.declared.Verdict.the-variants.{Fail}
 use Rattle.verdicts.specs.Verdicts.{first}
 use Rattle.clauses.specs.Check.{checkOf, OfReport}
+use Rattle.clauses.specs.Unreached.{Unreached}
 use Rattle.clauses.proofs.Laws as clauses
 use Rattle.record.specs.Map.{recordLength}
 use Rattle.record.specs.Layout.{mapOf, recordOf}
@@ -90,6 +98,23 @@ one-turned = depthOne.one-turned
 -- verdict one has an interval of M, which is empty where MRd of the top is below −MRd of the bottom
 pub none-between : (M top bottom : ℤ) → top <ℤ negℤ bottom → first M top bottom ≡ Fail
 none-between = clauses.none-between
+
+-- at 10h the page of the depths beyond it gives the same stress as the page up to it
+pub same-stress : (x : Design) (l : Layer) → Bounded x → Same (stress x l (at (10 * x .h))) (beyond.stress x l (10 * x .h))
+same-stress = meeting.same-stress
+
+-- the depth beyond 10h, where there is one: the internal force there is at least N, and below N at every one before it; and where there is none it is
+-- below N at every one
+pub least-beyond : (x : Design) (ls : List Layer) (N : ℤ) → 1 ≤ leastReaching x ls N
+    → IsLeast (reachedAt x ls N) (10 * x .h + 1) (20 * x .h) (leastReaching x ls N)
+least-beyond = intervals.reached-least
+
+pub never-beyond : (x : Design) (ls : List Layer) (N : ℤ) → leastReaching x ls N ≡ 0 → (u : ℕ) → Beyond x u → reachedAt x ls N u ≡ false
+never-beyond = intervals.reached-never
+
+-- where the face that M compresses lies beyond 10h no layer is in tension: verdicts two, three, four and six are 2 by the definitions
+pub beyond-unreached : (s : Section) (load : Load) → OfReport (λ x r. 10 * x .h < r .u → Unreached r) (accepted (counted s)) (checkOf s load)
+beyond-unreached = clauses.beyond-unreached
 
 -- r and q are the greatest of all numbers that pass their tests, not only up to a bound
 pub r-greatest : {x : Design} {n : ℕ} (ls : List Layer) → Usable x n ls → (u : ℕ) → 1 ≤ As u ls

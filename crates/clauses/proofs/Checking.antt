@@ -4,10 +4,12 @@ use mathlib.Core.Bool.{Bool, true, false, _&&_, cond}
 use mathlib.Core.List.{List, _++_}
 use mathlib.Core.Path.{_≡_, refl, sym, ap, subst, _∙_}
 use native.Mathlib.Omega.{arith}
+use borrow.Author.Tests.{leb-true}
 use lib.IntN.{ℤ, pos}
 use lib.Signed.{leZ}
 use Rattle.arith.specs.Chain.{test, orElse, firstFailing}
 use Rattle.arith.proofs.Chain.{first-of}
+use Rattle.arith.proofs.Test.{and-true, and-no}
 use Rattle.section.specs.declared.Layer.{Layer}
 use Rattle.section.specs.declared.Section.{Section}
 use Rattle.section.specs.declared.Links.{Links}
@@ -15,19 +17,17 @@ use Rattle.section.specs.declared.Load.{Load}
 use Rattle.section.specs.declared.Design.{Design}
 use Rattle.section.specs.declared.Accepted.{Accepted}
 use Rattle.section.specs.declared.Accepted.the-variants as section
-use Rattle.equilibrium.specs.declared.Depth.{Depth}
-use Rattle.equilibrium.specs.declared.Depth.the-variants as depth
 use Rattle.section.specs.Section.{layersOf, counted, linksOf}
 use Rattle.section.specs.Refusals.{accepted, loadLinkTests, answer}
 use Rattle.equilibrium.specs.Refusals.{carries, reaches}
 use Rattle.section.specs.Turned.{turned}
-use Rattle.equilibrium.specs.Force.{momentResistance}
-use Rattle.equilibrium.specs.Depth.{depthAnswer, depthFor}
-use Rattle.equilibrium.specs.Accuracy.{Accurate, DepthPromise, PromisedDepth}
+use Rattle.equilibrium.specs.Depth.{faceDepth}
+use Rattle.equilibrium.specs.Moment.{resistanceAt}
+use Rattle.equilibrium.specs.Accuracy.{DepthPromise}
 use Rattle.section.specs.Code.Usable.{Usable, LinksOk}
 use Rattle.section.proofs.Usable.{usable-by, load-links-ok, call-refused, call-ready, call-numbered}
 use Rattle.equilibrium.proofs.DepthOne.{one-turned}
-use Rattle.equilibrium.proofs.Found.{depth-promise}
+use Rattle.equilibrium.proofs.Found.{depth-promise, depth-reached}
 use Rattle.section.proofs.Turned.{usable-turned}
 use Rattle.clauses.specs.declared.Face.{Face}
 use Rattle.clauses.specs.declared.Report.{Report}
@@ -37,7 +37,7 @@ use Rattle.clauses.specs.Compressed.{ofCompressed}
 use Rattle.clauses.specs.Refusals.{facesTests, facesTestsOf, checkTests}
 use Rattle.clauses.specs.Check.{faceAt, reportOf, reportAt, reported, checkFaces, checkIn, checkOf, OfReport, refusalNumber}
 use Rattle.verdicts.specs.Verdicts.{numberOf, first}
-use Rattle.clauses.specs.Accuracy.{topOf, bottomOf, AccurateFaces, AccurateCheck}
+use Rattle.clauses.specs.Accuracy.{topOf, bottomOf, AccurateFace, AccurateFaces, AccurateCheck}
 use Rattle.clauses.specs.Best.{BestAnswer, BestLinks}
 use Rattle.links.specs.Links.{lesser, BestCotangent}
 use Rattle.links.proofs.Whole.{best-cotangent}
@@ -45,26 +45,9 @@ use Rattle.clauses.specs.Linked.{trussOf, reachesLinks, linkReport, link
 
 -- ---- the answer of Check, by cases of the section tests and of those of load and links
 
--- of both faces: what `depthFor` says of each
-by-depths : (x : Design) (top bottom : List Layer) (k : Links) (load : Load) → Depth → Depth → Checked
-by-depths x top bottom k load (depth.Refused j) d = Refused j
-by-depths x top bottom k load (depth.At t) (depth.Refused j) = Refused j
-by-depths x top bottom k load (depth.At t) (depth.At b) = Done (reportAt x k load top bottom t b)
-
 module _ (x : Design) (top bottom : List Layer) (k : Links) (load : Load) where
-  -- by cases of the test for 11, which both share, and of each one's test for 12
-  as-found : (one high low : Bool)
-      → by-depths x top bottom k load (depthAnswer top (load .n) (orElse (test 11 one) (orElse (test 12 high) 0)) (section.Ready x))
-      (depthAnswer bottom (load .n) (orElse (test 11 one) (orElse (test 12 low) 0)) (section.Ready x))
-      ≡ answer Refused (reported top bottom k load) (orElse (test 11 one) (orElse (test 12 (high && low)) 0)) (section.Ready x)
-  unfolding by-depths
-  as-found false high low = refl
-  as-found true false low = refl
-  as-found true true false = refl
-  as-found true true true = refl
-
   module _ (same : carries x bottom (load .n) 1 ≡ carries x top (load .n) 1) where
-    -- so of the one that M compresses
+    -- depth 1 is the same for both faces, and so for the one that M compresses
     compressed : carries x (ofCompressed (load .m) top bottom) (load .n) 1 ≡ carries x top (load .n) 1
     compressed = go (leZ (pos 0) (load .m))
       where
@@ -72,27 +55,55 @@ module _ (x : Design) (top bottom : List Layer) (k : Links) (load : Load) where
         go true = refl
         go false = same
 
-    faces-by-depths : by-depths x top bottom k load (depthFor x top (load .n)) (depthFor x bottom (load .n)) ≡ checkFaces x top bottom k load
-    unfolding depthFor checkFaces
-    faces-by-depths = rw (compressed, same) (as-found (carries x top (load .n) 1) (reaches x top (load .n)) (reaches x bottom (load .n)))
-
-    pub top-refused : {j : ℕ} → depthFor x top (load .n) ≡ depth.Refused j → Refused j ≡ checkFaces x top bottom k load
-    unfolding by-depths
-    top-refused e = rw e at faces-by-depths
-
-    pub bottom-refused : {t j : ℕ} → depthFor x top (load .n) ≡ depth.At t → depthFor x bottom (load .n) ≡ depth.Refused j
-        → Refused j ≡ checkFaces x top bottom k load
-    unfolding by-depths
-    bottom-refused e f = rw (e, f) at faces-by-depths
-
-    pub both-at : {t b : ℕ} → depthFor x top (load .n) ≡ depth.At t → depthFor x bottom (load .n) ≡ depth.At b
-        → Done (reportAt x k load top bottom t b) ≡ checkFaces x top bottom k load
-    unfolding by-depths
-    both-at e f = rw (e, f) at faces-by-depths
-
     pub one-refused : carries x top (load .n) 1 ≡ false → Refused 11 ≡ checkFaces x top bottom k load
     unfolding checkFaces
     one-refused e = rw (compressed, e)
+
+    -- where depth 1 carries: 12 by the tests of both faces, or the report
+    module _ (one : carries x top (load .n) 1 ≡ true) where
+      abbrev both : Bool
+      both = reaches x top (load .n) && reaches x bottom (load .n)
+
+      by-both : {t : Bool} → both ≡ t → answer Refused (reported top bottom k load) (orElse (test 12 t) 0) (section.Ready x) ≡ checkFaces x top bottom k load
+      unfolding checkFaces
+      by-both e = rw (compressed, one, e)
+
+      pub top-refused : reaches x top (load .n) ≡ false → Refused 12 ≡ checkFaces x top bottom k load
+      top-refused e = by-both {t = false} (rw e)
+
+      pub bottom-refused : reaches x bottom (load .n) ≡ false → Refused 12 ≡ checkFaces x top bottom k load
+      bottom-refused e = by-both {t = false} (rw e (and-no (reaches x top (load .n))))
+
+      pub both-reached : reaches x top (load .n) ≡ true → reaches x bottom (load .n) ≡ true
+          → reported top bottom k load x ≡ checkFaces x top bottom k load
+      both-reached t b = by-both {t = true} (and-true t b)
+
+-- What holds of 11, of 12, and of the report of both faces at depths that keep their promise, holds of the answer: by cases of the test for 11,
+-- which the faces share, and of each one's for 12.
+module _ {x : Design} {count : ℕ} (ls : List Layer) (k : Links) (load : Load) (w : Usable x count ls) where
+  abbrev below : List Layer
+  below = turned (x .h) ls
+
+  same-one : carries x below (load .n) 1 ≡ carries x ls (load .n) 1
+  same-one = one-turned ls (load .n) w
+
+  depth-at : {zs : List Layer} → Usable x count zs → carries x zs (load .n) 1 ≡ true → reaches x zs (load .n) ≡ true
+      → DepthPromise x zs (load .n) (faceDepth zs (load .n) x)
+  depth-at v one e = depth-promise (load .n) v one (leb-true _ _ (sym (depth-reached (load .n) v one) ∙ e))
+
+  pub faces-cases : (Q : Checked → Type 0) → Q (Refused 11) → Q (Refused 12)
+      → ((t b : ℕ) → DepthPromise x ls (load .n) t → DepthPromise x below (load .n) b → Q (Done (reportAt x k load ls below t b)))
+      → Q (checkFaces x ls below k load)
+  faces-cases Q eleven twelve done = go (carries x ls (load .n) 1) (reaches x ls (load .n)) (reaches x below (load .n)) refl refl refl
+    where
+      go : (one high low : Bool) → carries x ls (load .n) 1 ≡ one → reaches x ls (load .n) ≡ high → reaches x below (load .n) ≡ low
+          → Q (checkFaces x ls below k load)
+      go false high low e t b = rw (← one-refused x ls below k load same-one e) eleven
+      go true false low e t b = rw (← top-refused x ls below k load same-one e t) twelve
+      go true true false e t b = rw (← bottom-refused x ls below k load same-one e b) twelve
+      go true true true e t b =
+          rw (← both-reached x ls below k load same-one e t b)
+          (done (faceDepth ls (load .n) x) (faceDepth below (load .n) x) (depth-at w e t) (depth-at (usable-turned ls w) (same-one ∙ e) b))
 
 -- ---- where there are links and tension layers, the links' figures are those of the truss
 
@@ -122,7 +133,7 @@ module _ (x : Design) (k : Links) (load : Load) (top bottom : List Layer) (t b :
       go true f g = (refl, refl)
       go false f g = (refl, refl)
 
-  moment-is : report .moment ≡ numberOf (first (load .m) (momentResistance x top t) (momentResistance x bottom b))
+  moment-is : report .moment ≡ numberOf (first (load .m) (resistanceAt x top t) (resistanceAt x bottom b))
   unfolding reportAt reportOf
   moment-is = refl
 
@@ -186,23 +197,15 @@ module _ (s : Section) (load : Load) where
 
   module _ (P : Design → Report → Type 0)
       (each : (x : Design) (t b : ℕ) → Under x t b → P x (report-with x t b)) where
-    from-depths : (x : Design) (dt db : Depth) → Usable x (s .count) (layersOf s) → LinksOk (linksOf s) load
-        → PromisedDepth x (layersOf s) (load .n) dt → PromisedDepth x (turned (x .h) (layersOf s)) (load .n) db
-        → OfReport P (section.Ready x) (by-depths x (layersOf s) (turned (x .h) (layersOf s)) (linksOf s) load dt db)
-    unfolding by-depths
-    from-depths x (depth.Refused j) db w k p q = tt
-    from-depths x (depth.At t) (depth.Refused j) w k p q = tt
-    from-depths x (depth.At t) (depth.At b) w k p q = each x t b (record { usable = w; links = k; top = p; bottom = q })
-
     report-under : {x : Design} (k : ℕ) → k ≡ firstFailing tests → accepted (counted s) ≡ section.Ready x
         → OfReport P (section.Ready x) (checkOf s load)
     report-under {x} zero none e =
         let ls = layersOf s in
         let w = usable-by s e in
         let linked = load-links-ok (linksOf s) load (sym none) .links in
-        let both = from-depths x (depthFor x ls (load .n)) (depthFor x (turned (x .h) ls) (load .n)) w linked (depth-promise (load .n) w)
-        (depth-promise (load .n) (usable-turned ls w)) in
-        rw (← load-passed e (sym none)) (rw (← faces-by-depths x ls (turned (x .h) ls) (linksOf s) load (one-turned ls (load .n) w)) both)
+        rw (← load-passed e (sym none))
+        (faces-cases ls (linksOf s) load w (OfReport P (section.Ready x)) tt tt
+        (λ t b p q. each x t b (record { usable = w; links = linked; top = p; bottom = q })))
     report-under (suc k) some e = rw (← load-refused (suc k) e some (λ z. omega arith)) tt
 
     report-for : (a : Accepted) → accepted (counted s) ≡ a → OfReport P a (checkOf s load)
@@ -220,8 +223,8 @@ module _ (s : Section) (load : Load) where
       let top = faces .0 in
       let bottom = faces .1 in
       record {
-        top = subst (λ (f : Face). Accurate x ls (load .n) (f .u) (f .mrd)) (sym top) (w .top .accurate);
-        bottom = subst (λ (f : Face). Accurate x (turned (x .h) ls) (load .n) (f .u) (f .mrd)) (sym bottom) (w .bottom .accurate);
+        top = subst (AccurateFace x ls (load .n)) (sym top) (w .top .accurate);
+        bottom = subst (AccurateFace x (turned (x .h) ls) (load .n)) (sym bottom) (w .bottom .accurate);
         taken = moment-is x (linksOf s) load ls (turned (x .h) ls) t b ∙ (λ i. numberOf (first (load .m) (sym top i .mrd) (sym bottom i .mrd)));
       }
 

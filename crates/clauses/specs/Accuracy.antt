@@ -1,4 +1,6 @@
--- The accuracy statement, demand 3 of document 01 and 02's ticket 1, of Check. Assumes nothing.
+-- The accuracy statement, demand 3 of document 01 and 02's ticket 1, of Check; by ticket 11 it "keeps to depths up to 10h", each face for
+-- itself. Assumes nothing.
+use Prim.Native.Nat.{_*_, _≤_}
 use mathlib.Core.Bool.{cond}
 use mathlib.Core.List.{List}
 use mathlib.Core.Path.{_≡_}
@@ -29,10 +31,14 @@ topOf M r = cond (leZ (pos 0) M) (shown r) (r .other)
 abbrev pub bottomOf : ℤ → Report → Face
 bottomOf M r = cond (leZ (pos 0) M) (r .other) (shown r)
 
+-- a face that sees the layers as ls, under N: its depth, where it is up to 10h, is accurate with its resistance
+abbrev pub AccurateFace : Design → List Layer → ℤ → Face → Type 0
+AccurateFace x ls N face = face .u ≤ 10 * x .h → Accurate x ls N (face .u) (face .mrd)
+
 -- The depth of each face is accurate, with the resistance that verdict one takes for it.
 pub record AccurateFaces (x : Design) (ls : List Layer) (load : Load) (r : Report) : Type 0 where
-  pub top : Accurate x ls (load .n) (topOf (load .m) r .u) (topOf (load .m) r .mrd)
-  pub bottom : Accurate x (turned (x .h) ls) (load .n) (bottomOf (load .m) r .u) (bottomOf (load .m) r .mrd)
+  pub top : AccurateFace x ls (load .n) (topOf (load .m) r)
+  pub bottom : AccurateFace x (turned (x .h) ls) (load .n) (bottomOf (load .m) r)
   pub taken : r .moment ≡ numberOf (first (load .m) (topOf (load .m) r .mrd) (bottomOf (load .m) r .mrd))
 
 -- of Check

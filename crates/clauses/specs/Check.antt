@@ -1,4 +1,5 @@
--- Check: document 01, "Verdicts", with both faces of 02's ticket 1 and the links of its ticket 3. Assumes nothing.
+-- Check: document 01, "Verdicts", with both faces of 02's ticket 1, the links of its ticket 3 and the depths beyond 10h of its ticket 11.
+-- Assumes nothing.
 use Prim.Native.Nat.{ℕ}
 use mathlib.Core.List.{List, [], _∷_}
 use lib.IntN.{pos}
@@ -14,8 +15,8 @@ use Rattle.section.specs.declared.Accepted.the-variants as section
 use Rattle.section.specs.Section.{Counted, counted, linksOf}
 use Rattle.section.specs.Refusals.{accepted, answer}
 use Rattle.section.specs.Turned.{turned}
-use Rattle.equilibrium.specs.Force.{momentResistance}
-use Rattle.equilibrium.specs.Depth.{depthUnder}
+use Rattle.equilibrium.specs.Depth.{faceDepth}
+use Rattle.equilibrium.specs.Moment.{resistanceAt}
 use Rattle.shear.specs.Shear.{VRdc}
 use Rattle.clauses.specs.declared.Face.{Face}
 use Rattle.clauses.specs.declared.Listed.{Listed}
@@ -66,7 +67,7 @@ module _ (x : Design) (ls : List Layer) (k : Links) (load : Load) (face other : 
 
 -- a face that sees the layers as ls, at the depth u
 abbrev pub faceAt : Design → List Layer → ℕ → Face
-faceAt x ls u = record { u = u; mrd = momentResistance x ls u }
+faceAt x ls u = record { u = u; mrd = resistanceAt x ls u }
 
 -- of both faces, which see the layers as `top` and `bottom`, at the depths t and b
 unfoldable pub reportAt : Design → Links → Load → List Layer → List Layer → ℕ → ℕ → Report
@@ -77,11 +78,11 @@ reportAt x k load top bottom t b =
     load
     (ofCompressed (load .m) (faceAt x top t) (faceAt x bottom b))
     (ofOther (load .m) (faceAt x top t) (faceAt x bottom b))
-    (first (load .m) (momentResistance x top t) (momentResistance x bottom b))
+    (first (load .m) (resistanceAt x top t) (resistanceAt x bottom b))
 
--- the report, each face at the depth that it has under N
+-- the report, each face at the depth that it has under N, up to 10h or beyond it
 abbrev pub reported : List Layer → List Layer → Links → Load → Design → Checked
-reported top bottom k load x = Done (reportAt x k load top bottom (depthUnder top (load .n) x) (depthUnder bottom (load .n) x))
+reported top bottom k load x = Done (reportAt x k load top bottom (faceDepth top (load .n) x) (faceDepth bottom (load .n) x))
 
 -- 11, 12 or the report, for both faces of an accepted section, whose load and links passed their tests
 unfoldable pub checkFaces : Design → List Layer → List Layer → Links → Load → Checked

@@ -1,4 +1,4 @@
--- When Check is turned down: document 01, with 02's ticket 1 on 12 and its ticket 3 on the links. Its sequence of tests is a list, in the
+-- When Check is turned down: document 01, with 02's tickets 1 and 11 on 12 and its ticket 3 on the links. Its sequence of tests is a list, in the
 -- documents' order; the first that fails gives the refusal. The section tests, the load tests and those of the links stand on the page
 -- `Refusals` of the section. Assumes nothing.
 use Prim.Native.Nat.{ℕ}
@@ -22,7 +22,7 @@ abbrev pub facesTests : Design → List Layer → List Layer → Load → List �
 facesTests x top bottom load =
     -- 11 N below the internal force at depth 1, for the face compressed; the other says the same (`one-turned`)
     test 11 (carries x (ofCompressed (load .m) top bottom) (load .n) 1)
-    -- 12 N above the internal force at depth 10h of either
+    -- 12 no u up to 30h reaches N, of either
     ∷ test 12 (reaches x top (load .n) && reaches x bottom (load .n))
     ∷ []
 

@@ -1,10 +1,9 @@
-// Check: depths and moment resistances of both faces, and the verdicts. Document 01, "Verdicts", and 02's tickets 1 and 3.
+// Check: depths and moment resistances of both faces, and the verdicts. Document 01, "Verdicts", and 02's tickets 1, 3 and 11.
 use super::Checked;
 use super::Face;
 use super::Report;
 use super::linked::check_links;
 use super::numbers::verdict_number;
-use equilibrium::Depth;
 use equilibrium::resistance::moment_resistance;
 use equilibrium::search;
 use section::Design;
@@ -20,7 +19,7 @@ ghost use lib.ListN.{length};
 ghost use Rattle.section.specs.Code.Usable.{Usable, LoadOk, LinksOk};
 ghost use Rattle.section.specs.Code.Columns.{layersIn, areaSum};
 ghost use Rattle.section.specs.Turned.{turned};
-ghost use Rattle.equilibrium.specs.Code.Whole.{DepthOk, carriesAtOne};
+ghost use Rattle.equilibrium.specs.Code.Whole.{DepthRange, carriesAtOne};
 ghost use Rattle.clauses.specs.Compressed.{ofCompressed};
 ghost use Rattle.clauses.specs.Check.{faceAt, reportOf, reportAt, checkFaces};
 ghost use Rattle.clauses.specs.Code.Ranges.{Faces};
@@ -39,7 +38,7 @@ fn report_of(
     moment: Verdict,
 ) -> Report
     requires { ⌜ Usable x count (layersIn count (now depths) (now areas)) ⌝ }
-    requires { ⌜ (steel ≡ areaSum (layersIn count (now depths) (now areas))) × ((LinksOk k l × LoadOk l) × DepthOk x (face .u)) ⌝ }
+    requires { ⌜ (steel ≡ areaSum (layersIn count (now depths) (now areas))) × ((LinksOk k l × LoadOk l) × DepthRange x (face .u)) ⌝ }
     ensures { λ r. ⌜ r ≡ reportOf x (layersIn count (now (depths .entry)) (now (areas .entry))) k l face other moment ⌝ }
 {
     let u = face.u;
@@ -66,7 +65,7 @@ fn report_of(
 
 // A face at the depth u.
 fn face_at(x: Design, count: usize, depths: &[u32; 16], areas: &[u32; 16], u: u64) -> Face
-    requires { ⌜ Usable x count (layersIn count (now depths) (now areas)) × DepthOk x u ⌝ }
+    requires { ⌜ Usable x count (layersIn count (now depths) (now areas)) × DepthRange x u ⌝ }
     ensures { λ r. ⌜ r ≡ faceAt x (layersIn count (now (depths .entry)) (now (areas .entry))) u ⌝ }
 {
     Face {
@@ -103,7 +102,7 @@ fn report_at<'a>(
     b: u64,
 ) -> Report
     requires { ⌜ Faces x count (layersIn count (now top) (now areas)) (layersIn count (now bottom) (now areas)) steel k l ⌝ }
-    requires { ⌜ DepthOk x t × DepthOk x b ⌝ }
+    requires { ⌜ DepthRange x t × DepthRange x b ⌝ }
     ensures { λ r. ⌜ r ≡ reportAt x k l (layersIn count (now (top .entry)) (now (areas .entry))) (layersIn count (now (bottom .entry)) (now (areas .entry)))
         t b ⌝ }
 {
@@ -132,24 +131,15 @@ fn check_faces<'a>(
     ensures { λ r. ⌜ r ≡ checkFaces x (layersIn count (now (top .entry)) (now (areas .entry))) (layersIn count (now (bottom .entry)) (now (areas .entry)))
         k l ⌝ }
 {
-    match search::depth_above_one(x, count, top, areas, steel, l.n) {
-        Depth::Refused(j) => Checked::Refused(j),
-        Depth::At(t) => match search::depth_above_one(x, count, bottom, areas, steel, l.n) {
-            Depth::Refused(j) => Checked::Refused(j),
-            Depth::At(b) => Checked::Done(report_at(
-                x,
-                count,
-                top,
-                bottom,
-                areas,
-                steel,
-                k,
-                l,
-                t,
-                b,
-            )),
-        },
+    let t = search::depth_above_one(x, count, top, areas, steel, l.n);
+    if t == 0 {
+        return Checked::Refused(12);
     }
+    let b = search::depth_above_one(x, count, bottom, areas, steel, l.n);
+    if b == 0 {
+        return Checked::Refused(12);
+    }
+    Checked::Done(report_at(x, count, top, bottom, areas, steel, k, l, t, b))
 }
 
 // An accepted section in columns, with links and under a load that passed their tests. 11 is asked once for both faces.

@@ -1,4 +1,4 @@
-// What the clauses of EN 1992-1-1 say of a section and its load: document 01, "Verdicts", and 02's tickets 1 and 3.
+// What the clauses of EN 1992-1-1 say of a section and its load: document 01, "Verdicts", and 02's tickets 1, 3 and 11.
 mod check;
 mod linked;
 pub mod numbers;
@@ -16,7 +16,8 @@ ghost use Rattle.clauses.specs.Check.{checkOf, refusalNumber};
 ghost use Rattle.clauses.specs.Accuracy.{AccurateCheck};
 ghost use Rattle.clauses.specs.Best.{BestLinks};
 
-// A face under N: the depth of the neutral axis in tenths of a millimetre from that face, and MRd in N·mm with it compressed.
+// A face under N: the depth of the neutral axis in tenths of a millimetre from that face, up to 10h or beyond it, and MRd in N·mm with it
+// compressed.
 #[repr(C)]
 pub struct Face {
     pub u: u64,
@@ -72,7 +73,7 @@ pub struct Listed {
 
 // Check a section under a load. u, MRd, VRd,c, dm, As and verdicts two to four are those of the face that M compresses, `other` is the other
 // face; verdict one asks both, five neither. Verdict six and the links' figures are of the face that M compresses too.
-// Refusals: the section tests, the load tests, those of the links, 11 N below the internal force at depth 1, 12 N above that at 10h of
+// Refusals: the section tests, the load tests, those of the links, 11 N below the internal force at depth 1, 12 no u up to 30h reaches N, of
 // either face.
 pub fn check_section(s: Section, l: Load) -> Checked
     ensures { λ r. ⌜ r ≡ checkOf s l ⌝ }

@@ -19,7 +19,7 @@ ghost use Rattle.record.specs.RoundTrip.{ReadsBack};
 ghost use Rattle.listing.specs.Answers.{listWritten, listBuffer};
 ghost use Rattle.engine.specs.Answers.{depthAnswer, momentAnswer};
 
-// The refusal, 0 for none, and the depth in tenths of a millimetre.
+// The refusal, 0 for none, and the depth in tenths of a millimetre, up to 10h or beyond it.
 #[repr(C)]
 pub struct DepthAnswer {
     pub refusal: u64,
@@ -39,6 +39,10 @@ pub extern "C" fn salwoerk_find_depth(s: Section, n: i64) -> DepthAnswer
 {
     match equilibrium::find_depth(s, n) {
         Depth::At(u) => DepthAnswer {
+            refusal: 0,
+            depth: u,
+        },
+        Depth::Beyond(u) => DepthAnswer {
             refusal: 0,
             depth: u,
         },

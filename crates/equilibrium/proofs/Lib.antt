@@ -4,6 +4,8 @@ pub mod Accuracy
 pub mod Found
 pub mod Whole
 pub mod Sizes
+pub mod Range
+pub mod Meeting
 pub mod DepthOne
 pub mod Trials
 pub mod Pressed

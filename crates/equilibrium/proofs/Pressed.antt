@@ -1,19 +1,25 @@
--- Where no layer is in tension the internal force is above 0: so under N 0 some layer is. Assumes nothing.
+-- Where no layer is in tension the internal force is above 0: so under N 0 some layer is, and the depth is up to 10h. Assumes nothing.
 use Prim.Native.Nat.{ℕ, _*_, _≤_}
-use mathlib.Core.Bool.{true}
+use mathlib.Core.Bool.{Bool, true, false}
 use mathlib.Core.List.{List, [], _∷_}
-use mathlib.Core.Path.{_≡_, sym, _∙_}
+use mathlib.Core.Path.{_≡_, refl, sym, _∙_}
 use native.Mathlib.Nat.{le-min, mul-le-mul-left, mul-pos}
 use native.Mathlib.Omega.{arith}
 use lib.IntN.{pos}
+use Rattle.arith.specs.Fraction.{integer}
+use Rattle.arith.proofs.Fraction.{<ᶠ→≤ᶠ, Tested, Tested.below, Tested.above, tested}
 use Rattle.arith.proofs.Ring.{#, _⊕_, _⊝_, _⊗_, le?}
-use Rattle.arith.proofs.Test.{le-true}
+use Rattle.arith.proofs.Test.{le-true, both-true}
 use Rattle.section.specs.declared.Layer.{Layer}
 use Rattle.section.specs.declared.Design.{Design}
-use Rattle.section.specs.Code.Usable.{Bounded}
+use Rattle.section.specs.Section.{all, depthOk}
+use Rattle.section.specs.Code.Usable.{Bounded, Usable}
+use Rattle.section.proofs.OneLayer.{layer-high}
 use Rattle.section.specs.Code.Columns.{areaSum}
-use Rattle.equilibrium.specs.Refusals.{carries}
+use Rattle.equilibrium.specs.Force.{at, internalForce}
+use Rattle.equilibrium.specs.Refusals.{carries, upTo10h}
 use Rattle.equilibrium.specs.Code.Whole.{liftAt, liftSum, restAt, excess}
+use Rattle.equilibrium.proofs.Accuracy.{carry}
 use Rattle.equilibrium.proofs.Sizes.{concrete-low}
 use Rattle.equilibrium.proofs.Whole.{carries-is}
 
@@ -40,3 +46,22 @@ module _ (x : Design) (u : ℕ) where
       let here = (# (pos (x .m .f * x .m .l * x .b * u)) ⊝ # rest) ⊗ # (pos u) ⊕ # (pos (800 * liftSum x ls u)) in
       let most = le? here (# (pos 0)) (le-true (excess x ls (pos 0) u) (pos 0) (sym (carries-is x ls (pos 0) low) ∙ e)) in
       omega (arith, concrete, most, lift-all-least ls h)
+
+-- from 10h on no layer lies below the neutral axis
+pressed-from : (h u : ℕ) (ls : List Layer) → 10 * h ≤ u → all (depthOk h) ls ≡ true → Pressed u ls
+unfolding Pressed
+pressed-from h u [] m e = tt
+pressed-from h u (l ∷ ls) m e =
+    let t = both-true (depthOk h l) (all (depthOk h) ls) e in
+    (omega (arith, layer-high h l (t .0)), pressed-from h u ls m (t .1))
+
+-- so N 0 is at most the internal force at 10h
+pub none-over : {x : Design} {n : ℕ} (ls : List Layer) → Usable x n ls → upTo10h x ls (pos 0) ≡ true
+unfolding upTo10h
+none-over {x} ls w = go (tested (integer (pos 0)) (internalForce x ls (at (10 * x .h))))
+  where
+    go : {t : Bool} → Tested (integer (pos 0)) (internalForce x ls (at (10 * x .h))) t → t ≡ true
+    go (below h) = refl
+    go (above h) =
+        absurd (not-pressed x (10 * x .h) ls (w .bounded) (omega (arith, w .bounded .h-low)) (pressed-from (x .h) (10 * x .h) ls (omega arith) (w .depths))
+        (carry x ls (pos 0) (10 * x .h) (<ᶠ→≤ᶠ h)))

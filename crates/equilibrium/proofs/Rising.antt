@@ -5,7 +5,7 @@ use mathlib.Core.Path.{_≡_, refl}
 use native.Mathlib.Nat.{mul-le-mul-left}
 use native.Mathlib.Omega.{arith}
 use Rattle.arith.specs.Fraction.{Fraction, Proper, Ratio, whole, ratio, _-ᶠ_, _*ᶠ_, _/ᶠ_, _÷ᶠ_, _≤ᶠ_, _<ᶠ_}
-use Rattle.arith.proofs.Fraction.{tidy, Positive, proper, +ᶠ-proper, ≤ᶠ-refl, <ᶠ→≤ᶠ, +ᶠ-mono, +ᶠ-strict, whole-mono, whole-strict}
+use Rattle.arith.proofs.Fraction.{tidy, Positive, proper, +ᶠ-proper, ≤ᶠ-refl, <ᶠ→≤ᶠ, +ᶠ-mono, +ᶠ-strict, whole-mono, whole-strict, bounds}
 use Rattle.arith.proofs.Fraction.{/ᶠ-mono, /ᶠ-strict, held-proper, held-mono}
 use Rattle.section.specs.declared.Layer.{Layer}
 use Rattle.section.specs.declared.Design.{Design}
@@ -32,10 +32,6 @@ free-mono : (E d : ℕ) (u v : Ratio) → ratio u ≤ᶠ ratio v → free E d u 
 unfolding free _*ᶠ_ _-ᶠ_ _÷ᶠ_ whole ratio
 free-mono E d u v h = record { le = simp tidy (omega (arith, mul-le-mul-left (10 * d * E * u .q * v .q) (h .le))) }
 
-bounds : (s : ℕ) → whole 0 -ᶠ whole s /ᶠ 100 ≤ᶠ whole s /ᶠ 100
-unfolding _-ᶠ_ _/ᶠ_ whole
-bounds s = omega arith
-
 module _ (x : Design) {u : Ratio} (pu : Positive u) where
   pub concrete-proper : Proper (concreteForce x u)
   unfolding concreteForce
@@ -59,7 +55,7 @@ module _ (x : Design) {u v : Ratio} (pu : Positive u) (pv : Positive v) where
   unfolding layerForce stress free
   layer-mono l h =
       whole-mono _ (
-      held-mono (free-proper (x .m .e) (l .depth) pu) (free-proper (x .m .e) (l .depth) pv) (bounds (x .m .s)) (free-mono (x .m .e) (l .depth) u v h))
+      held-mono (free-proper (x .m .e) (l .depth) pu) (free-proper (x .m .e) (l .depth) pv) (bounds (x .m .s) 100) (free-mono (x .m .e) (l .depth) u v h))
 
   pub steel-mono : (ls : List Layer) → ratio u ≤ᶠ ratio v → steelForce x ls u ≤ᶠ steelForce x ls v
   unfolding steelForce

@@ -2,8 +2,7 @@
 use Prim.Native.Nat.{ℕ, _+_, _-_, _*_, _≤_}
 use mathlib.Core.Bool.{true}
 use mathlib.Core.List.{List, [], _∷_}
-use mathlib.Core.Path.{_≡_, ap}
-use native.Mathlib.Decide.{decLe}
+use mathlib.Core.Path.{_≡_}
 use native.Mathlib.Nat.{mul-le-mul, mul-le-mul-left, le-trans, div-le-of-le-mul, min-le-right}
 use native.Mathlib.Omega.{arith}
 use lib.Dec.{lit≤}
@@ -11,34 +10,24 @@ use lib.IntN.{ℤ, pos}
 use lib.ListN.{length}
 use Rattle.arith.specs.Fraction.{floor}
 use Rattle.arith.specs.Integer.{Within}
-use Rattle.arith.proofs.Fraction.{exchange}
+use Rattle.arith.proofs.Fraction.{product-most}
 use Rattle.arith.proofs.Bound.{lit, mul-in, sub-in, add-in, up-to}
 use Rattle.arith.proofs.Floor.{floor-in}
 use Rattle.arith.proofs.Test.{both-true}
 use Rattle.section.specs.declared.Layer.{Layer}
 use Rattle.section.specs.declared.Design.{Design}
 use Rattle.section.specs.Section.{all, depthOk, areaOk}
-use Rattle.equilibrium.specs.Force.{at, concreteMoment, layerMoment, steelResistance, momentResistance}
+use Rattle.beyond.specs.Code.Whole.{blockMoment}
+use Rattle.equilibrium.specs.Force.{at, layerMoment}
 use Rattle.section.specs.Code.Usable.{Bounded, LayerOk, Usable}
 use Rattle.section.specs.Code.Columns.{areaSum}
-use Rattle.equilibrium.specs.Code.Whole.{DepthOk, liftAt, stressAt, liftSum, restAt, excess, blockMoment, BlockBounds, LiftBounds, Trial}
+use Rattle.equilibrium.specs.Code.Whole.{DepthOk, liftAt, stressAt, liftSum, restAt, excess, BlockBounds, LiftBounds, Trial}
 use Rattle.section.proofs.OneLayer.{steel-high, layer-ok}
-use Rattle.equilibrium.proofs.Whole.{layer-floor, concrete-floor}
+use Rattle.equilibrium.proofs.Whole.{layer-floor}
 
--- a depth is at most 20,000 tenths
+-- a depth up to 10h is at most 20,000 tenths
 pub depth-most : {x : Design} {u : ℕ} → Bounded x → DepthOk x u → u ≤ 20000
 depth-most b d = omega (arith, b .h-high, d .high)
-
--- the product of two numbers is greatest where they are equal
-pub product-most : (k r B : ℕ) → k + r ≡ B + B → k * r ≤ B * B
-product-most k r B e = go (decLe k B)
-  where
-    double : B * (k + r) ≡ B * (B + B)
-    double = ap (λ (t : ℕ). B * t) e
-
-    go : Dec (k ≤ B) → k * r ≤ B * B
-    go (yes h) = omega (arith, double, exchange {a = k} {b = B} {c = B} {d = r} h (omega arith))
-    go (no n) = omega (arith, double, exchange {a = r} {b = B} {c = B} {d = k} (omega arith) (omega arith))
 
 -- ---- the lift
 
@@ -133,18 +122,7 @@ module _ {x : Design} {u : ℕ} {l : Layer} (b : Bounded x) (ok : DepthOk x u) (
       let depth : Within (pos (2 * l .depth)) 4000 = record { within = omega (arith, lo .depth-high, b .h-high) } in
       rw (layer-floor x l (ok .low)) (floor-in (pos (200 * u)) (mul-in (mul-in area stress-in) (sub-in height depth)))
 
--- ---- the moment of the section
-
-module _ {x : Design} {u : ℕ} (b : Bounded x) (ok : DepthOk x u) where
-  steel-in : (ls : List Layer) → all (depthOk (x .h)) ls ≡ true → all areaOk ls ≡ true → Within (steelResistance x ls u) (layer-bound * length ls)
-  unfolding steelResistance
-  steel-in [] d a = record { within = omega arith }
-  steel-in (l ∷ ls) d a =
-      let depths = both-true (depthOk (x .h) l) (all (depthOk (x .h)) ls) d in
-      let areas = both-true (areaOk l) (all areaOk ls) a in
-      up-to (add-in (layer-moment-in b ok (layer-ok (x .h) l (depths .0) (areas .0))) (steel-in ls (depths .1) (areas .1))) (omega arith)
-
--- the factors of the concrete moment: k and what it leaves of 800h are together 800h, so their product is at most (400h)²
+-- ---- the factors of the concrete moment: k and what it leaves of 800h are together 800h, so their product is at most (400h)²
 pub record BlockSizes (f b h k : ℕ) : Type 0 where
   pub product : k * (800 * h - k) ≤ 800000 * 800000
   pub strength : f * b ≤ 6000 * 2000
@@ -158,17 +136,3 @@ block-sizes {f} {b} {h} {k} w =
     let strength = mul-le-mul (w .f-high) (w .b-high) in
     let above = mul-le-mul strength product in
     record { product = product; strength = strength; above = above; quotient = div-le-of-le-mul 128000000 (le-trans above (lit≤ tt)) }
-
--- at a depth of the range k is L·u
-pub block-bounds : {x : Design} {u : ℕ} → Bounded x → DepthOk x u → BlockBounds (x .m .f) (x .b) (x .h) (x .m .l * u)
-block-bounds b ok =
-    record { f-high = b .materials .f-high; b-high = b .b-high; h-high = b .h-high; k-high = omega (arith, mul-le-mul (b .materials .L-high) (ok .high)) }
-
--- "the moment's bound"
-pub resistance-in : {x : Design} {count : ℕ} {ls : List Layer} {u : ℕ} → Usable x count ls → DepthOk x u → Within (momentResistance x ls u) 7000000000000000000
-unfolding momentResistance
-resistance-in {x} {ls = ls} {u} w ok =
-    let k = block-bounds (w .bounded) ok in
-    let concrete : Within (floor (concreteMoment x (at u))) 60000000000 = rw (concrete-floor x u (ok .low) (k .k-high))
-    (record { within = block-sizes k .quotient }) in
-    up-to (add-in concrete (steel-in (w .bounded) ok ls (w .depths) (w .areas))) (omega (arith, w .counted, w .count-high))

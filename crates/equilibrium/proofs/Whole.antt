@@ -17,9 +17,10 @@ use Rattle.arith.proofs.Quotient.{integer-per, same-trans, same-add, same-mul, 
 use Rattle.section.specs.declared.Layer.{Layer}
 use Rattle.section.specs.declared.Design.{Design}
 use Rattle.equilibrium.specs.Force.{at, concreteForce, stress, layerForce, steelForce, internalForce, concreteMoment, layerMoment}
-use Rattle.equilibrium.specs.Refusals.{carries, reaches}
+use Rattle.beyond.specs.Code.Whole.{blockMoment}
+use Rattle.equilibrium.specs.Refusals.{carries, upTo10h}
 use Rattle.section.specs.Code.Columns.{areaSum}
-use Rattle.equilibrium.specs.Code.Whole.{lifted, liftAt, stressAt, liftSum, excess, blockMoment}
+use Rattle.equilibrium.specs.Code.Whole.{lifted, liftAt, stressAt, liftSum, excess}
 use Rattle.equilibrium.proofs.Rising.{at-positive, force-proper}
 use Rattle.equilibrium.proofs.Nearness.{concrete-moment-proper, layer-moment-proper}
 
@@ -195,6 +196,6 @@ module _ (x : Design) (ls : List Layer) (z : ℤ) {u : ℕ} (low : 1 ≤ u) wher
       same-at-least (integer z) (force-proper x (at-positive u low) ls) proper-force (force-is x low ls)
       ∙ rw (integer-per z) (test-is _ force-here (# (pos 0)) difference (omega arith) (omega arith))
 
-pub reaches-is : (x : Design) (ls : List Layer) (z : ℤ) → 1 ≤ x .h → reaches x ls z ≡ leZ (pos 0) (excess x ls z (10 * x .h))
-unfolding reaches
-reaches-is x ls z h = at-least x ls z (omega arith)
+pub up-to-is : (x : Design) (ls : List Layer) (z : ℤ) → 1 ≤ x .h → upTo10h x ls z ≡ leZ (pos 0) (excess x ls z (10 * x .h))
+unfolding upTo10h
+up-to-is x ls z h = at-least x ls z (omega arith)

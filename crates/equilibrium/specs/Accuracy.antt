@@ -1,6 +1,8 @@
--- The accuracy statement, demand 3 of document 01. Assumes nothing.
-use Prim.Native.Nat.{ℕ, _+_, _*_, _≤_}
+-- The accuracy statement, demand 3 of document 01; by 02's ticket 11 it "keeps to depths up to 10h". Assumes nothing.
+use Prim.Native.Nat.{ℕ, _+_, _*_, _≤_, _<_}
+use mathlib.Core.Bool.{false}
 use mathlib.Core.List.{List}
+use mathlib.Core.Path.{_≡_}
 use lib.IntN.{ℤ}
 use lib.ListN.{length}
 use Rattle.arith.specs.Chain.{OneOf}
@@ -11,13 +13,13 @@ use Rattle.section.specs.declared.Design.{Design}
 use Rattle.section.specs.declared.Accepted.{Accepted}
 use Rattle.section.specs.declared.Accepted.the-variants as section
 use Rattle.equilibrium.specs.declared.Depth.{Depth}
-use Rattle.equilibrium.specs.declared.Depth.the-variants.{At, Refused}
+use Rattle.equilibrium.specs.declared.Depth.the-variants.{At, Beyond, Refused}
 use Rattle.section.specs.Section.{counted}
 use Rattle.section.specs.Refusals.{accepted}
-use Rattle.equilibrium.specs.Refusals.{faceRefusals}
-use Rattle.equilibrium.specs.Force.{at, internalForce, unroundedMoment, momentResistance}
-use Rattle.equilibrium.specs.Code.Whole.{DepthOk}
-use Rattle.equilibrium.specs.Moment.{momentAt, momentFound}
+use Rattle.equilibrium.specs.Refusals.{upTo10h, faceRefusals}
+use Rattle.equilibrium.specs.Force.{at, internalForce, unroundedMoment}
+use Rattle.equilibrium.specs.Code.Whole.{DepthRange}
+use Rattle.equilibrium.specs.Moment.{resistanceAt, momentAt, momentFound}
 
 -- 01's "range": every p/q tenths, q above 0, from 1 to 10h with both ends
 pub record Range (h : ℕ) (y : Ratio) : Type 0 where
@@ -48,21 +50,26 @@ pub record Accurate (x : Design) (ls : List Layer) (N : ℤ) (u : ℕ) (reported
   pub near : (y : Ratio) → Range (x .h) y → whole u ≤ᶠ ratio y → ratio y ≤ᶠ whole (u + 1)
       → DifferAtMost (allowance x ls u y) (unroundedMoment x ls y) (integer reported)
 
--- The promise of the depth for a face, by cases: a depth of the range, accurate with the moment resistance there; or 11 or 12.
--- All that a part above uses of it.
+-- The promise of the depth for a face: a depth from 1 to 30h; up to 10h it is accurate, with the moment resistance there; and beyond 10h it
+-- lies only where N is above the internal force at 10h. All that a part above uses of it.
 pub record DepthPromise (x : Design) (ls : List Layer) (N : ℤ) (u : ℕ) : Type 0 where
-  pub depth : DepthOk x u
-  pub accurate : Accurate x ls N u (momentResistance x ls u)
+  pub depth : DepthRange x u
+  pub accurate : u ≤ 10 * x .h → Accurate x ls N u (resistanceAt x ls u)
+  pub over : 10 * x .h < u → upTo10h x ls N ≡ false
 
+-- by cases of the answer: a depth of its kind; or 11 or 12
 abbrev pub PromisedDepth : Design → List Layer → ℤ → Depth → Type 0
-PromisedDepth x ls N (At u) = DepthPromise x ls N u
+PromisedDepth x ls N (At u) = (u ≤ 10 * x .h) × DepthPromise x ls N u
+PromisedDepth x ls N (Beyond u) = (10 * x .h < u) × DepthPromise x ls N u
 PromisedDepth x ls N (Refused k) = OneOf faceRefusals k
 
--- Of Find a depth: a depth that is answered is accurate, with the moment that Moment at a depth answers for the same section
--- and u; and only an accepted section has one.
+-- Of Find a depth: a depth up to 10h that is answered is accurate, with the moment that Moment at a depth answers for the same section
+-- and u; of one beyond 10h nothing is said; and only an accepted section has one.
 abbrev pub AccurateFound : Section → ℤ → Accepted → Depth → Type 0
 AccurateFound s N (section.Ready x) (At u) = Accurate x (counted s .layers) N u (momentFound (momentAt s u))
 AccurateFound s N (section.Refused k) (At u) = ⊥
+AccurateFound s N (section.Ready x) (Beyond u) = Unit {0}
+AccurateFound s N (section.Refused k) (Beyond u) = ⊥
 AccurateFound s N a (Refused k) = Unit {0}
 
 abbrev pub AccurateDepth : Section → ℤ → Depth → Type 0

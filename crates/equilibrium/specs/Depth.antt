@@ -1,5 +1,6 @@
--- Find a depth: document 01, "Equilibrium". Assumes nothing.
+-- Find a depth: document 01, "Equilibrium", and 02's ticket 11 for depths beyond 10h. Assumes nothing.
 use Prim.Native.Nat.{ℕ, _*_}
+use mathlib.Core.Bool.{cond}
 use mathlib.Core.List.{List}
 use lib.IntN.{ℤ}
 use Rattle.arith.specs.Chain.{firstFailing}
@@ -10,26 +11,37 @@ use Rattle.section.specs.declared.Design.{Design}
 use Rattle.section.specs.declared.Accepted.{Accepted}
 use Rattle.section.specs.declared.Accepted.the-variants as section
 use Rattle.equilibrium.specs.declared.Depth.{Depth}
-use Rattle.equilibrium.specs.declared.Depth.the-variants.{At, Refused}
+use Rattle.equilibrium.specs.declared.Depth.the-variants.{At, Beyond, Refused}
 use Rattle.section.specs.Section.{Counted, counted}
 use Rattle.section.specs.Refusals.{accepted, answer}
-use Rattle.equilibrium.specs.Refusals.{carries, faceTests, findDepthTests}
+use Rattle.beyond.specs.Depth.{leastReaching}
+use Rattle.equilibrium.specs.Refusals.{carries, upTo10h, faceTests, findDepthTests}
 
 -- the paper's numbers for each case of the answer: the refusal, 0 for none, and u, 0 where refused
 abbrev pub refusalNumber : Depth → ℕ
 refusalNumber (At u) = 0
+refusalNumber (Beyond u) = 0
 refusalNumber (Refused k) = k
 
 abbrev pub depthFound : Depth → ℕ
 depthFound (At u) = u
+depthFound (Beyond u) = u
 depthFound (Refused k) = 0
 
--- the depth of a face under N: the greatest u of the range, 1 to 10h, at which the internal force is at most N
+-- up to 10h: the greatest u of the range, 1 to 10h, at which the internal force is at most N
 abbrev pub depthUnder : List Layer → ℤ → Design → ℕ
 depthUnder ls N x = greatest (carries x ls N) (10 * x .h)
 
+-- the depth of a face under N: up to 10h; or, for N above the internal force at 10h, the least beyond it that reaches N (ticket 11)
+abbrev pub faceDepth : List Layer → ℤ → Design → ℕ
+faceDepth ls N x = cond (upTo10h x ls N) (depthUnder ls N x) (leastReaching x ls N)
+
+-- and which of the two it is
+abbrev pub depthOf : List Layer → ℤ → Design → Depth
+depthOf ls N x = cond (upTo10h x ls N) (At (depthUnder ls N x)) (Beyond (leastReaching x ls N))
+
 abbrev pub depthAnswer : List Layer → ℤ → ℕ → Accepted → Depth
-depthAnswer ls N = answer Refused (λ x. At (depthUnder ls N x))
+depthAnswer ls N = answer Refused (depthOf ls N)
 
 -- of an accepted section and an N in its range: 11, 12 or the depth
 unfoldable pub depthFor : Design → List Layer → ℤ → Depth

@@ -1,4 +1,4 @@
-// A section of reinforced concrete in equilibrium: document 01, "Equilibrium".
+// A section of reinforced concrete in equilibrium: document 01, "Equilibrium", and 02's ticket 11 for depths beyond 10h.
 mod balance;
 mod guess;
 pub mod resistance;
@@ -18,9 +18,11 @@ ghost use Rattle.equilibrium.specs.Moment as moment;
 ghost use Rattle.equilibrium.specs.Moment.{momentAt};
 ghost use Rattle.equilibrium.specs.Accuracy.{AccurateDepth};
 
-// The depth of the neutral axis, in tenths of a millimetre from the compressed face, or why there is none.
+// The depth of the neutral axis, in tenths of a millimetre from the compressed face: up to 10h, or beyond it, where the section is compressed over
+// its full height; or why there is none.
 pub enum Depth {
     At(u64),
+    Beyond(u64),
     Refused(u8),
 }
 
@@ -30,8 +32,9 @@ pub enum Moment {
     Refused(u8),
 }
 
-// Find a depth, with the top compressed: the greatest u from 1 to 10h tenths of a millimetre at which the internal force is at
-// most N. Refusals: the section tests, 8 N out of range, 11 N below the internal force at depth 1, 12 N above that at depth 10h.
+// Find a depth, with the top compressed: the greatest u from 1 to 10h tenths of a millimetre at which the internal force is at most N; for N
+// above the internal force at 10h, the least u beyond it, up to 30h, at which the internal force is at least N.
+// Refusals: the section tests, 8 N out of range, 11 N below the internal force at depth 1, 12 no u up to 30h reaches N.
 pub fn find_depth(s: Section, n: i64) -> Depth
     ensures { λ r. ⌜ r ≡ findDepth s n ⌝ }
     ensures refusal { λ r. ⌜ depth.refusalNumber r ≡ firstFailing (findDepthTests (counted s) n) ⌝ }
@@ -57,7 +60,7 @@ pub fn find_depth(s: Section, n: i64) -> Depth
 }
 
 // Moment at a depth, with the top compressed: the moment resistance at u tenths of a millimetre.
-// Refusals: the section tests, and 13 where u is not in 1 to 10h.
+// Refusals: the section tests, and 13 where u is not in 1 to 30h.
 pub fn moment_at(s: Section, u: u64) -> Moment
     ensures { λ r. ⌜ r ≡ momentAt s u ⌝ }
     ensures refusal { λ r. ⌜ moment.refusalNumber r ≡ firstFailing (momentTests (counted s) u) ⌝ }
@@ -71,7 +74,7 @@ pub fn moment_at(s: Section, u: u64) -> Moment
     match refusals::accept(s.width, s.height, grade, count, &depths, &areas) {
         Accepted::Refused(k) => Moment::Refused(k),
         Accepted::Ready(x) => {
-            if arith::both(1 <= u, u <= 10 * x.h) {
+            if arith::both(1 <= u, u <= 30 * x.h) {
                 Moment::Of(resistance::moment_resistance(x, count, &depths, &areas, u))
             } else {
                 Moment::Refused(13)

@@ -14,8 +14,8 @@ ghost use Rattle.arith.specs.Greatest.{greatest};
 ghost use Rattle.arith.specs.Integer.{Within};
 ghost use Rattle.section.specs.Code.Usable.{Bounded, Usable};
 ghost use Rattle.equilibrium.specs.Refusals.{carries};
-ghost use Rattle.equilibrium.specs.Depth.{depthFor};
-ghost use Rattle.equilibrium.specs.Accuracy.{PromisedDepth};
+ghost use Rattle.equilibrium.specs.Depth.{faceDepth, depthFor};
+ghost use Rattle.equilibrium.specs.Accuracy.{DepthPromise, PromisedDepth};
 ghost use Rattle.section.specs.Code.Columns.{layersIn};
 ghost use Rattle.equilibrium.specs.Code.Whole.{liftSum, carriesAtOne, excessBy, excess, ExcessBounds, Trial};
 
@@ -156,7 +156,7 @@ pub fn carries_at_one(x: Design, steel: u64, n: i64) -> bool
     concrete_of(x) as i64 <= rest_of(x, steel, n)
 }
 
-// The depth of a face whose depth 1 carries; or 12, which is asked only where the search ends at 10h.
+// The depth of a face whose depth 1 carries, or 0 where none up to 30h reaches N. Beyond 10h is looked only where the search ends at 10h.
 pub fn depth_above_one(
     x: Design,
     count: usize,
@@ -164,22 +164,22 @@ pub fn depth_above_one(
     areas: &[u32; 16],
     steel: u64,
     n: i64,
-) -> Depth
+) -> u64
     requires { ⌜ Trial x count (layersIn count (now depths) (now areas)) steel n ⌝ }
     requires { ⌜ carriesAtOne x steel n ≡ true ⌝ }
-    ensures { λ r. ⌜ r ≡ depthFor x (layersIn count (now (depths .entry)) (now (areas .entry))) n ⌝ }
-    ensures promised { λ r. ⌜ PromisedDepth x (layersIn count (now (depths .entry)) (now (areas .entry))) n r ⌝ }
+    ensures { λ r. ⌜ r ≡ faceDepth (layersIn count (now (depths .entry)) (now (areas .entry))) n x ⌝ }
+    ensures promised { λ r. ⌜ (1 ≤ r → DepthPromise x (layersIn count (now (depths .entry)) (now (areas .entry))) n r) ⌝ }
 {
     let most = 10 * x.h;
     let u = by_pairs(x, count, depths, areas, steel, n);
     if u < most {
-        return Depth::At(u);
+        return u;
     }
     let p = excesses(x, count, depths, areas, steel, n, most - 1);
     if p.next < 0 {
-        return Depth::Refused(12);
+        return beyond::search::least_reaching(x, count, depths, areas, n);
     }
-    Depth::At(u)
+    u
 }
 
 // The depth of an accepted section under N, with the face compressed from which its depths are measured; or 11 or 12.
@@ -198,5 +198,12 @@ pub fn depth_for(
     if !carries_at_one(x, steel, n) {
         return Depth::Refused(11);
     }
-    depth_above_one(x, count, depths, areas, steel, n)
+    let u = depth_above_one(x, count, depths, areas, steel, n);
+    if u == 0 {
+        return Depth::Refused(12);
+    }
+    if u <= 10 * x.h {
+        return Depth::At(u);
+    }
+    Depth::Beyond(u)
 }

@@ -20,22 +20,15 @@ use Rattle.section.specs.declared.Load.{Load}
 use Rattle.section.specs.declared.Design.{Design}
 use Rattle.section.specs.declared.Accepted.{Accepted}
 use Rattle.section.specs.declared.Accepted.the-variants as section
-use Rattle.equilibrium.specs.declared.Depth.{Depth}
-use Rattle.equilibrium.specs.declared.Depth.the-variants as depth
 use Rattle.section.specs.Section.{layersOf, counted, linksOf}
 use Rattle.section.specs.Refusals.{accepted, loadLinkTests, sectionRefusals, loadLinkRefusals}
-use Rattle.equilibrium.specs.Refusals.{carries, faceRefusals}
 use Rattle.section.specs.Code.Usable.{Usable, LoadOk}
 use Rattle.section.specs.Turned.{turned}
-use Rattle.equilibrium.specs.Force.{momentResistance}
-use Rattle.equilibrium.specs.Code.Whole.{DepthOk}
-use Rattle.equilibrium.specs.Depth.{depthFor}
-use Rattle.equilibrium.specs.Accuracy.{PromisedDepth}
+use Rattle.equilibrium.specs.Moment.{resistanceAt}
+use Rattle.equilibrium.specs.Code.Whole.{DepthRange}
 use Rattle.section.proofs.Usable.{section-promise, usable-by, load-link-one-of, load-links-ok}
 use Rattle.section.proofs.Turned.{usable-turned}
-use Rattle.equilibrium.proofs.Sizes.{depth-most, resistance-in}
-use Rattle.equilibrium.proofs.DepthOne.{one-turned}
-use Rattle.equilibrium.proofs.Found.{depth-promise}
+use Rattle.equilibrium.proofs.Range.{range-most, resistance-in}
 use Rattle.shear.specs.Shear.{Sheared, concreteShare, axialShare, orZero, VRdc}
 use Rattle.shear.specs.Code.Ranges.{ShearBounds}
 use Rattle.shear.specs.Shear as shear
@@ -50,7 +43,7 @@ use Rattle.verdicts.specs.Tension.{areaOf, As, dm}
 use Rattle.clauses.specs.Check.{refusedListed, listed, faceAt, reportOf, reportAt, checkFaces, checkOf}
 use Rattle.verdicts.proofs.Layers.{counts, As-high, dm-high}
 use Rattle.clauses.proofs.Laws.{stress-in}
-use Rattle.clauses.proofs.Checking.{check-refused, load-refused, load-passed, top-refused, bottom-refused, both-at}
+use Rattle.clauses.proofs.Checking.{check-refused, load-refused, load-passed, faces-cases}
 use Rattle.listing.proofs.Longest.{Fitting}
 
 -- ---- refusals have at most three digits
@@ -116,7 +109,7 @@ sixth-digit x k v As dm = go (reachesLinks k As)
 
 -- what is reported of a face, whose layers are ls
 report-fits : {x : Design} {count : ℕ} (ls : List Layer) (k : Links) (l : Load) (face other : Face) (v : Verdict) → Usable x count ls → LoadOk l
-    → DepthOk x (face .u) → Within (face .mrd) 7000000000000000000 → Fitting (listed (Done (reportOf x ls k l face other v)))
+    → DepthRange x (face .u) → Within (face .mrd) 7000000000000000000 → Fitting (listed (Done (reportOf x ls k l face other v)))
 unfolding reportOf
 report-fits {x} ls k l face other v w ok d m =
     let u = face .u in
@@ -127,7 +120,7 @@ report-fits {x} ls k l face other v w ok d m =
     let stress = stress-in ls w u in
     record {
       refusal = omega arith;
-      u = omega (arith, depth-most b d);
+      u = omega (arith, range-most b d);
       mrd = omega (arith, m .within);
       vrd = shear-most _ (record {
         stress = stress;
@@ -160,26 +153,19 @@ module _ {x : Design} {count : ℕ} (ls : List Layer) (k : Links) (l : Load) (w 
   below = turned (x .h) ls
 
   -- whichever face M compresses
-  either-fits : (t b : ℕ) → DepthOk x t → DepthOk x b → Fitting (listed (Done (reportAt x k l ls below t b)))
+  either-fits : (t b : ℕ) → DepthRange x t → DepthRange x b → Fitting (listed (Done (reportAt x k l ls below t b)))
   unfolding reportAt
   either-fits t b d e = go (leZ (pos 0) (l .m))
     where
       go : (z : Bool) → Fitting (listed (Done (reportOf x (cond z ls below) k l (cond z (faceAt x ls t) (faceAt x below b))
-          (cond z (faceAt x below b) (faceAt x ls t)) (first (l .m) (momentResistance x ls t) (momentResistance x below b)))))
+          (cond z (faceAt x below b) (faceAt x ls t)) (first (l .m) (resistanceAt x ls t) (resistanceAt x below b)))))
       go true = report-fits ls k l _ _ _ w ok d (resistance-in w d)
       go false = report-fits below k l _ _ _ (usable-turned ls w) ok e (resistance-in (usable-turned ls w) e)
 
   faces-fit : Fitting (listed (checkFaces x ls below k l))
-  faces-fit = go (depthFor x ls (l .n)) (depthFor x below (l .n)) refl refl (depth-promise (l .n) w) (depth-promise (l .n) (usable-turned ls w))
-    where
-      same : carries x below (l .n) 1 ≡ carries x ls (l .n) 1
-      same = one-turned ls (l .n) w
-
-      go : (d e : Depth) → depthFor x ls (l .n) ≡ d → depthFor x below (l .n) ≡ e → PromisedDepth x ls (l .n) d → PromisedDepth x below (l .n) e
-          → Fitting (listed (checkFaces x ls below k l))
-      go (depth.Refused r) e i j p q = rw (← top-refused x ls below k l same i) (refused-fits r (small faceRefusals tt p))
-      go (depth.At t) (depth.Refused r) i j p q = rw (← bottom-refused x ls below k l same i j) (refused-fits r (small faceRefusals tt q))
-      go (depth.At t) (depth.At b) i j p q = rw (← both-at x ls below k l same i j) (either-fits t b (p .depth) (q .depth))
+  faces-fit =
+      faces-cases ls k l w (λ r. Fitting (listed r)) (refused-fits 11 (lit< tt)) (refused-fits 12 (lit< tt))
+      (λ t b p q. either-fits t b (p .depth) (q .depth))
 
 pub check-fits : (s : Section) (l : Load) → Fitting (listed (checkOf s l))
 check-fits s l = go (accepted (counted s)) refl

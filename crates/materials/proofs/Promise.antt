@@ -47,6 +47,9 @@ limits m =
     ∷ (m .t, 50)
     ∷ (520, m .e)
     ∷ (m .e, 700)
+    ∷ (1, m .d)
+    ∷ (m .d, 460)
+    ∷ (m .d, m .e)
     ∷ (56, m .l)
     ∷ (m .l, 64)
     ∷ (1, m .f)
@@ -93,13 +96,16 @@ module _ (i k : ℕ) {class : Class} (row : find k table ≡ Found class) {alpha
     T-high = limit 1;
     E-low = limit 2;
     E-high = limit 3;
-    L-low = limit 4;
-    L-high = limit 5;
-    f-low = limit 6;
-    f-high = limit 7;
-    g-high = limit 8;
-    s-high = le-trans (s-rises (situationOf i) (y .high)) (limit 9);
-    crd-high = limit 10;
+    D-low = limit 4;
+    D-high = limit 5;
+    D-most = limit 6;
+    L-low = limit 7;
+    L-high = limit 8;
+    f-low = limit 9;
+    f-high = limit 10;
+    g-high = limit 11;
+    s-high = le-trans (s-rises (situationOf i) (y .high)) (limit 12);
+    crd-high = limit 13;
   }
 
 -- the first of them is of the class alone

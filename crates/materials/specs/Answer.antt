@@ -35,14 +35,15 @@ gradeTests grade =
 abbrev pub gradeRefusals : List ℕ
 gradeRefusals = 3 ∷ 4 ∷ 32 ∷ 34 ∷ []
 
--- the letters of 01 and 100·CRd,c, of a class and a steel that passed, with the factor αcc, in the situation j
+-- the letters of 01, D of ticket 11 and 100·CRd,c, of a class and a steel that passed, with the factor αcc, in the situation j
 abbrev pub numbers : Ratio → Situation → ℕ → ℕ → Class → Materials
 numbers αcc j fck fyk class =
     record {
       fck = fck;
       fyk = fyk;
-      t = class .t;
-      e = class .e;
+      t = class .0;
+      e = class .1;
+      d = class .2;
       l = L fck;
       f = f αcc j fck;
       g = g αcc j fck;
@@ -96,6 +97,9 @@ pub record Bounds (m : Materials) : Type 0 where
   pub T-high : m .t ≤ 50
   pub E-low : 520 ≤ m .e
   pub E-high : m .e ≤ 700
+  pub D-low : 1 ≤ m .d
+  pub D-high : m .d ≤ 460
+  pub D-most : m .d ≤ m .e
   pub L-low : 56 ≤ m .l
   pub L-high : m .l ≤ 64
   pub f-low : 1 ≤ m .f

@@ -1,5 +1,5 @@
-// Concrete and steel: document 01, "Materials", and 02's tickets 8 for the design situation and 10 for the long-term factor. This is the
-// part that is exchanged country by country: no formula above it has a partial factor or αcc.
+// Concrete and steel: document 01, "Materials", and 02's tickets 8 for the design situation, 10 for the long-term factor and 11 for D. This
+// is the part that is exchanged country by country: no formula above it has a partial factor or αcc.
 ghost use Prim.Native.Nat.{_≤_};
 ghost use mathlib.Core.Bool.{true};
 ghost use mathlib.Core.Path.{_≡_};
@@ -32,6 +32,8 @@ pub struct Materials {
     pub t: u64,
     // E: 200,000 N/mm² times the strain εcu3
     pub e: u64,
+    // D: 200,000 N/mm² times the strain εc3
+    pub d: u64,
     // L: 80 times the depth factor of the stress block
     pub l: u64,
     // f, g and s: design strengths of block, concrete and steel, in hundredths of N/mm²
@@ -48,14 +50,9 @@ pub enum Answer {
     Refused(u8),
 }
 
-// What Table 3.1 prints of a class, by the letters of document 01. A further column of that table is a further field.
-#[repr(C)]
-pub struct Class {
-    // T: fctm, in tenths of N/mm²
-    pub t: u64,
-    // E: 200,000 N/mm² times the strain εcu3
-    pub e: u64,
-}
+// What Table 3.1 prints of a class, by the letters of document 01 and of 02's ticket 11, in this sequence: T, fctm in tenths of N/mm²; E and D,
+// 200,000 N/mm² times the strains εcu3 and εc3. Without names, so that a row is one line. A further column of that table is a further field.
+pub struct Class(u64, u64, u64);
 
 // The class, if fck is in the table.
 pub enum Row {
@@ -112,25 +109,25 @@ const ACCIDENTAL: PartialFactors = PartialFactors {
     steel: 100, // γs 1.0
 };
 
-// The row of Table 3.1.
+// The row of Table 3.1: T, E and D.
 fn table_row(fck: u64) -> Row
     ensures { λ r. ⌜ r ≡ find fck table ⌝ }
 {
     match fck {
-        12 => Row::Found(Class { t: 16, e: 700 }),
-        16 => Row::Found(Class { t: 19, e: 700 }),
-        20 => Row::Found(Class { t: 22, e: 700 }),
-        25 => Row::Found(Class { t: 26, e: 700 }),
-        30 => Row::Found(Class { t: 29, e: 700 }),
-        35 => Row::Found(Class { t: 32, e: 700 }),
-        40 => Row::Found(Class { t: 35, e: 700 }),
-        45 => Row::Found(Class { t: 38, e: 700 }),
-        50 => Row::Found(Class { t: 41, e: 700 }),
-        55 => Row::Found(Class { t: 42, e: 620 }),
-        60 => Row::Found(Class { t: 44, e: 580 }),
-        70 => Row::Found(Class { t: 46, e: 540 }),
-        80 => Row::Found(Class { t: 48, e: 520 }),
-        90 => Row::Found(Class { t: 50, e: 520 }),
+        12 => Row::Found(Class(16, 700, 350)),
+        16 => Row::Found(Class(19, 700, 350)),
+        20 => Row::Found(Class(22, 700, 350)),
+        25 => Row::Found(Class(26, 700, 350)),
+        30 => Row::Found(Class(29, 700, 350)),
+        35 => Row::Found(Class(32, 700, 350)),
+        40 => Row::Found(Class(35, 700, 350)),
+        45 => Row::Found(Class(38, 700, 350)),
+        50 => Row::Found(Class(41, 700, 350)),
+        55 => Row::Found(Class(42, 620, 360)),
+        60 => Row::Found(Class(44, 580, 380)),
+        70 => Row::Found(Class(46, 540, 400)),
+        80 => Row::Found(Class(48, 520, 440)),
+        90 => Row::Found(Class(50, 520, 460)),
         _ => Row::Missing,
     }
 }
@@ -223,8 +220,9 @@ fn design_values(fck: u64, fyk: u64, alphacc: u64, class: Class, j: PartialFacto
     Materials {
         fck: fck,
         fyk: fyk,
-        t: class.t,
-        e: class.e,
+        t: class.0,
+        e: class.1,
+        d: class.2,
         l: block.l,
         f: block_strength(fck, block.eta, alphacc, j),
         g: concrete_strength(fck, alphacc, j),

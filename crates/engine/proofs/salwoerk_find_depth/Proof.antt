@@ -13,11 +13,14 @@ find-depth-requires c κs = search needs
 enum-known-u : tie.Need-enum-known-u
 enum-known-u c = search needs
 
+enum-known-u-2 : tie.Need-enum-known-u-2
+enum-known-u-2 c = search needs
+
 enum-known-k : tie.Need-enum-known-k
 enum-known-k c = search needs
 
-cast-t7 : tie.Need-cast-t7
-cast-t7 c = search needs
+cast-t8 : tie.Need-cast-t8
+cast-t8 c = search needs
 
 answer : (c : tie.After-find-depth) → c .find-depth .result ≡ findDepth (c .before .args .s) (c .before .args .n)
 answer c = c .find-depth .ensures .0 ∙ ap (λ (z : ℤ). findDepth (c .before .args .s) z) (toZ-ofZ (c .before .fits .n))
@@ -26,8 +29,20 @@ returns : tie.Need-returns
 returns c = simp (sym (answer (c .before .before .before)) ∙ c .before .u .given .1)
 
 returns-2 : tie.Need-returns-2
-returns-2 c = simp (sym (answer (c .before .before .before)) ∙ c .before .k .given .1)
+returns-2 c = simp (sym (answer (c .before .before .before)) ∙ c .before .u2 .given .1)
+
+returns-3 : tie.Need-returns-3
+returns-3 c = simp (sym (answer (c .before .before .before)) ∙ c .before .k .given .1)
 
 pub salwoerk-find-depth-spec : {M : Type 1} → statement M
 salwoerk-find-depth-spec =
-    tie.close (tie.spec find-depth-requires enum-known-u enum-known-k cast-t7 returns returns-2)
+    tie.close
+    (tie.spec
+    find-depth-requires
+    enum-known-u
+    enum-known-u-2
+    enum-known-k
+    cast-t8
+    returns
+    returns-2
+    returns-3)

@@ -8,7 +8,7 @@ use borrow.Author.Tests.{leb-true}
 use lib.ListN.{length-map}
 use Rattle.arith.proofs.Machine.{field, result}
 use Rattle.arith.proofs.Test.{both-true}
-use Rattle.equilibrium.specs.Force.{momentResistance}
+use Rattle.equilibrium.specs.Moment.{resistanceAt}
 use Rattle.equilibrium.proofs.Found.{moment-refused, moment-ready, moment-clauses}
 use Rattle.section.specs.Section.{counted}
 use Rattle.section.specs.Refusals.{accepted}
@@ -68,7 +68,7 @@ moment-resistance-requires c κs =
     let tested = c .before .before in
     let a = tested .before .before .before .before in
     let u = start (asked a) .args .u in
-    let most = 10 * a .x .given .0 .0 .h in
+    let most = 30 * a .x .given .0 .0 .h in
     let t = both-true (leb 1 u) (leb u most) (sym (tested .before .both .ensures) ∙ tested .if1 .taken) in
     (rw (section a .layers-are) (section a .usable), record { low = leb-true 1 u (t .0); high = leb-true u most (t .1) })
 
@@ -83,7 +83,7 @@ returns-2 c =
     let tested = c .before .before .before in
     let a = tested .before .before .before .before in
     let s = start (asked a) .args in
-    let found = c .moment-resistance .ensures ∙ ap (λ ls. momentResistance (a .x .given .0 .0) ls (s .u)) (section a .layers-are) in
+    let found = c .moment-resistance .ensures ∙ ap (λ ls. resistanceAt (a .x .given .0 .0) ls (s .u)) (section a .layers-are) in
     moment-clauses (s .s) (s .u)
     (sym (moment-ready (s .s) (s .u) (section a .ready) ∙ simp (sym (tested .before .both .ensures) ∙ tested .if1 .taken, result (c .moment-resistance .ok) found)))
 

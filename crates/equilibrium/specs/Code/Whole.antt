@@ -1,18 +1,26 @@
 -- At a whole depth u stress, force and moment are whole numbers over a natural: what the code computes. No sentence of document 01 stands
 -- here. Assumes nothing.
-use Prim.Native.Nat.{ℕ, _+_, _-_, _*_, _/_, _≤_, min}
-use mathlib.Core.Bool.{Bool}
+use Prim.Native.Nat.{ℕ, _+_, _-_, _*_, _≤_, min}
+use mathlib.Core.Bool.{Bool, cond}
 use mathlib.Core.List.{List, [], _∷_}
 use mathlib.Core.Path.{_≡_}
+use lib.Dec.{leb}
 use lib.IntN.{ℤ, pos, _+ℤ_, _-ℤ_, _*ℤ_}
 use lib.Signed.{leZ}
+use Rattle.arith.specs.Fraction.{floor}
 use Rattle.arith.specs.Integer.{Within}
 use Rattle.section.specs.declared.Layer.{Layer}
 use Rattle.section.specs.declared.Design.{Design}
 use Rattle.section.specs.Code.Usable.{Bounded, Usable}
 use Rattle.section.specs.Code.Columns.{areaSum}
+use Rattle.beyond.specs.Force as beyond
+use Rattle.equilibrium.specs.Force.{at, layerMoment, steelResistance}
 
--- a depth of the range
+-- a depth of the whole range, and one up to 10h
+pub record DepthRange (x : Design) (u : ℕ) : Type 0 where
+  pub low : 1 ≤ u
+  pub high : u ≤ 30 * x .h
+
 pub record DepthOk (x : Design) (u : ℕ) : Type 0 where
   pub low : 1 ≤ u
   pub high : u ≤ 10 * x .h
@@ -53,10 +61,13 @@ excessBy x steel N lift u = (pos (x .m .f * x .m .l * x .b * u) -ℤ restAt x st
 unfoldable pub excess : Design → List Layer → ℤ → ℕ → ℤ
 excess x ls N u = excessBy x (areaSum ls) N (liftSum x ls u) u
 
--- ---- the moment of the concrete, for a block of the depth k in 1/800 mm, rounded down
+-- ---- the moments of the layers at a depth up to 30h, by the page that it belongs to
 
-abbrev pub blockMoment : ℕ → ℕ → ℕ → ℕ → ℕ
-blockMoment f b h k = f * b * (k * (800 * h - k)) / 128000000
+abbrev pub layerMomentAt : Design → Layer → ℕ → ℤ
+layerMomentAt x l u = cond (leb u (10 * x .h)) (floor (layerMoment x l (at u))) (floor (beyond.layerMoment x l u))
+
+abbrev pub steelAt : Design → List Layer → ℕ → ℤ
+steelAt x ls u = cond (leb u (10 * x .h)) (steelResistance x ls u) (beyond.steelResistance x ls u)
 
 -- ---- what the code asks
 

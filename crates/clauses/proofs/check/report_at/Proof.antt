@@ -10,7 +10,7 @@ use Rattle.arith.proofs.Machine.{field}
 use Rattle.section.specs.declared.Layer.{Layer}
 use Rattle.section.specs.Code.Columns.{layersIn, areaSum}
 use Rattle.section.specs.Code.Usable.{Usable}
-use Rattle.equilibrium.specs.Code.Whole.{DepthOk}
+use Rattle.equilibrium.specs.Code.Whole.{DepthRange}
 use Rattle.clauses.specs.declared.Face.{Face}
 use Rattle.clauses.specs.Compressed.{ofCompressed}
 use Rattle.verdicts.specs.Verdicts.{first}
@@ -97,7 +97,7 @@ module _ (k : tie.After-compressed-depths) where
   area-is true = s .pre .0 .of-top .area
   area-is false = s .pre .0 .of-bottom .area
 
-  depth-ok : (t : Bool) → DepthOk (s .args .x) (cond t (top judged) (bottom judged) .u)
+  depth-ok : (t : Bool) → DepthRange (s .args .x) (cond t (top judged) (bottom judged) .u)
   depth-ok true = s .pre .1 .0
   depth-ok false = s .pre .1 .1
 
@@ -120,7 +120,7 @@ report-of-requires : tie.Need-report-of-requires
 report-of-requires c κs =
     let k = chosen c in
     let t = leZ (pos 0) (M k) in
-    let depth = subst (DepthOk (s k .args .x)) (λ i. sym (face-is c) i .u) (depth-ok k t) in
+    let depth = subst (DepthRange (s k .args .x)) (λ i. sym (face-is c) i .u) (depth-ok k t) in
     (rw (layers-are k) (usable k t), (rw (layers-are k) (area-is k t), ((s k .pre .0 .linked, s k .pre .0 .loaded), depth)))
 
 returns : tie.Need-returns

@@ -7,7 +7,8 @@ use borrow.Author.Needs.{needs}
 use Rattle.arith.proofs.Machine.{field, result}
 use Rattle.section.specs.declared.Layer.{Layer}
 use Rattle.section.specs.Code.Columns.{layersIn}
-use Rattle.equilibrium.proofs.Sizes.{depth-most, area-high}
+use Rattle.equilibrium.proofs.Sizes.{area-high}
+use Rattle.equilibrium.proofs.Range.{range-most}
 use Rattle.clauses.specs.Check.{reportOf}
 use Rattle.verdicts.proofs.Layers.{counts, area-is, As-high, dm-high}
 use Rattle.clauses.proofs.check.report_of.Statement.{statement}
@@ -54,7 +55,7 @@ verdict-number-requires c κs = search needs
 depth-verdict-requires : tie.Need-depth-verdict-requires
 depth-verdict-requires c κs =
     let a = c .before .before .before .before .before in
-    (omega (arith, depth-most (start a .pre .0 .bounded) (start a .pre .1 .1 .1)), depth-high a)
+    (range-most (start a .pre .0 .bounded) (start a .pre .1 .1 .1), depth-high a)
 
 verdict-number-requires-2 : tie.Need-verdict-number-requires-2
 verdict-number-requires-2 c κs = search needs

@@ -6,7 +6,7 @@ use borrow.Author.Needs.{needs}
 use lib.Dec.{lit<}
 use mir.Syntax.{w64}
 use mir.Facts.{toZ-pos}
-use Rattle.equilibrium.specs.Code.Whole.{blockMoment}
+use Rattle.beyond.specs.Code.Whole.{blockMoment}
 use Rattle.equilibrium.proofs.Sizes.{block-sizes}
 use Rattle.equilibrium.proofs.resistance.concrete_moment.Statement.{statement}
 use Rattle.equilibrium.proofs.resistance.concrete_moment.Tie as tie

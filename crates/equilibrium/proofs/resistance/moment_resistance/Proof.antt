@@ -1,7 +1,8 @@
 -- `equilibrium::resistance::moment_resistance` meets its contract. Assumes nothing.
-use Prim.Native.Nat.{_*_}
-use lib.IntN.{_+ℤ_}
-use mathlib.Core.Path.{_≡_, sym, _∙_}
+use Prim.Native.Nat.{_*_, _≤_}
+use lib.IntN.{pos, _+ℤ_}
+use mathlib.Core.Path.{_≡_, sym, ap, _∙_}
+use native.Mathlib.Nat.{mul-le-mul}
 use native.Mathlib.Omega.{arith}
 use mir.Syntax.{w64}
 use mir.Val.{SFits, toZ, ofZ}
@@ -9,38 +10,56 @@ use mir.Facts.{toZ-ofZ}
 use borrow.Author.Needs.{needs}
 use Rattle.arith.proofs.Machine.{result}
 use Rattle.arith.proofs.Bound.{fits64}
-use Rattle.equilibrium.specs.Force.{momentResistance}
 use Rattle.section.specs.Code.Columns.{layersIn}
+use Rattle.beyond.specs.Code.Whole.{block, blockMoment}
+use Rattle.equilibrium.specs.Moment.{resistanceAt}
 use Rattle.equilibrium.specs.Code.Whole.{BlockBounds}
-use Rattle.equilibrium.proofs.Sizes.{block-bounds, resistance-in}
-use Rattle.equilibrium.proofs.Whole.{concrete-floor}
+use Rattle.equilibrium.proofs.Range.{range-most, block-bounds, concrete-at, resistance-parts, resistance-in}
 use Rattle.equilibrium.proofs.resistance.moment_resistance.Statement.{statement}
 use Rattle.equilibrium.proofs.resistance.moment_resistance.Tie as tie
 
-block : (c : tie.After-struct-known) → (let x = c .before .args .x in BlockBounds (x .m .f) (x .b) (x .h) (x .m .l * c .before .args .u))
-block c = block-bounds (c .before .pre .0 .bounded) (c .before .pre .1)
+-- the block's depth
+module _ (c : tie.After-lesser) where
+  abbrev begin : tie.Start
+  begin = c .before .before .before
+
+  block-is : c .lesser .result ≡ block (begin .args .x) (begin .args .u)
+  block-is = c .lesser .ensures
 
 -- the sum that is computed is the resistance
 module _ (c : tie.After-steel-resistance) where
+  abbrev chosen : tie.After-lesser
+  chosen = c .before .before
+
   abbrev s : tie.Start
-  s = c .before .before .before
+  s = begin chosen
 
   sum-is : toZ w64 (ofZ w64 (c .before .concrete-moment .result)) +ℤ toZ w64 (ofZ w64 (c .steel-resistance .result))
-      ≡ momentResistance (s .args .x) (layersIn (s .args .count) (s .args .depths .now) (s .args .areas .now)) (s .args .u)
-  unfolding momentResistance
+      ≡ resistanceAt (s .args .x) (layersIn (s .args .count) (s .args .depths .now) (s .args .areas .now)) (s .args .u)
   sum-is =
-      let concrete = c .before .concrete-moment .ensures
-      ∙ sym (concrete-floor (s .args .x) (s .args .u) (s .pre .1 .low) (block (c .before .before) .k-high)) in
-      λ i. result (c .before .concrete-moment .ok) concrete i +ℤ result (c .steel-resistance .ok) (c .steel-resistance .ensures) i
+      let x = s .args .x in
+      let concrete = c .before .concrete-moment .ensures ∙ ap (λ k. pos (blockMoment (x .m .f) (x .b) (x .h) k)) (block-is chosen)
+      ∙ concrete-at (s .pre .0 .bounded) (s .pre .1) in
+      (λ i. result (c .before .concrete-moment .ok) concrete i +ℤ result (c .steel-resistance .ok) (c .steel-resistance .ensures) i)
+      ∙ sym (resistance-parts x (s .args .u) _)
 
   sum-fits : SFits w64 (toZ w64 (ofZ w64 (c .before .concrete-moment .result)) +ℤ toZ w64 (ofZ w64 (c .steel-resistance .result)))
   sum-fits = rw sum-is (fits64 (resistance-in (s .pre .0) (s .pre .1)) tt)
 
-mul-concrete-moment : tie.Need-mul-concrete-moment
-mul-concrete-moment c = omega (arith, block c .k-high, c .before .pre .0 .bounded .h-high)
+mul-lesser : tie.Need-mul-lesser
+mul-lesser c =
+    let s = c .before in
+    omega (arith, mul-le-mul (s .pre .0 .bounded .materials .L-high) (range-most (s .pre .0 .bounded) (s .pre .1)))
+
+mul-lesser-2 : tie.Need-mul-lesser-2
+mul-lesser-2 c = search needs
+
+lesser-requires : tie.Need-lesser-requires
+lesser-requires c κs = search needs
 
 concrete-moment-requires : tie.Need-concrete-moment-requires
-concrete-moment-requires c κs = block c
+concrete-moment-requires c κs =
+    rw (block-is c) (block-bounds (begin c .args .u) (begin c .pre .0 .bounded))
 
 steel-resistance-requires : tie.Need-steel-resistance-requires
 steel-resistance-requires c κs = search needs
@@ -55,7 +74,9 @@ pub moment-resistance-spec : {M : Type 1} → statement M
 moment-resistance-spec =
     tie.close
     (tie.spec
-    mul-concrete-moment
+    mul-lesser
+    mul-lesser-2
+    lesser-requires
     concrete-moment-requires
     steel-resistance-requires
     add-result

@@ -14,9 +14,10 @@ use Rattle.arith.proofs.Bound.{up-to, add-in}
 use Rattle.arith.proofs.Machine.{M, local, call, _⊞_, fits, value}
 use Rattle.section.specs.declared.Layer.{Layer}
 use Rattle.section.specs.Code.Usable.{LayerOk}
-use Rattle.equilibrium.specs.Force.{steelResistance}
+use Rattle.equilibrium.specs.Code.Whole.{steelAt}
 use Rattle.section.specs.Code.Columns.{layerIn, layersIn}
-use Rattle.equilibrium.proofs.Sizes.{layer-bound, layer-moment-in}
+use Rattle.equilibrium.proofs.Sizes.{layer-bound}
+use Rattle.equilibrium.proofs.Range.{layer-at-in, steel-none, steel-next}
 use Rattle.section.proofs.Usable.{layer-at-ok}
 use Rattle.section.proofs.InColumns.{next-in, over-in}
 use Rattle.section.proofs.Walk.{sum-step, sum-done}
@@ -27,7 +28,7 @@ abbrev Inv-loop : tie.InvT-loop
 Inv-loop x count depths areas u sum₀ i₀ sum i =
     let ls = layersIn count depths areas in
     (i ≤ count)
-    × ((toZ w64 sum +ℤ steelResistance x (drop i ls) u ≡ steelResistance x ls u)
+    × ((toZ w64 sum +ℤ steelAt x (drop i ls) u ≡ steelAt x ls u)
     × Within (toZ w64 sum) (layer-bound * i))
 
 abbrev μ-loop : tie.MeasureT-loop
@@ -54,29 +55,29 @@ module _ (c : tie.In-loop Inv-loop μ-loop) where
   abbrev sum : M
   sum = local (turn .loop .sum) refl (up-to {Y = layer-bound * 16} (turn .loop .inv .1 .1) (omega (arith, turn .loop .inv .0, start .pre .0 .count-high)))
 
-abbrev grown : tie.After-layer-moment Inv-loop μ-loop → M
+abbrev grown : tie.After-layer-moment-at Inv-loop μ-loop → M
 grown c =
     let a = c .before .before .before in
     let s = start a in
-    sum a ⊞ call (c .layer-moment .ok) (c .layer-moment .ensures) (layer-moment-in (s .pre .0 .bounded) (s .pre .1) (ok a))
+    sum a ⊞ call (c .layer-moment-at .ok) (c .layer-moment-at .ensures) (layer-at-in (s .pre .0 .bounded) (s .pre .1) (ok a))
 
 loop-holds : tie.Need-loop-holds Inv-loop μ-loop
 loop-holds c = (search needs, (+ℤ-idl _, search needs))
 
-mul-layer-moment : tie.Need-mul-layer-moment Inv-loop μ-loop
-mul-layer-moment c = search needs
+mul-layer-moment-at : tie.Need-mul-layer-moment-at Inv-loop μ-loop
+mul-layer-moment-at c = search needs
 
-element-copy-out-layer-moment : tie.Need-element-copy-out-layer-moment Inv-loop μ-loop
-element-copy-out-layer-moment c = search needs
+element-copy-out-layer-moment-at : tie.Need-element-copy-out-layer-moment-at Inv-loop μ-loop
+element-copy-out-layer-moment-at c = search needs
 
-mul-layer-moment-2 : tie.Need-mul-layer-moment-2 Inv-loop μ-loop
-mul-layer-moment-2 c = search needs
+mul-layer-moment-at-2 : tie.Need-mul-layer-moment-at-2 Inv-loop μ-loop
+mul-layer-moment-at-2 c = search needs
 
-element-copy-out-layer-moment-2 : tie.Need-element-copy-out-layer-moment-2 Inv-loop μ-loop
-element-copy-out-layer-moment-2 c = search needs
+element-copy-out-layer-moment-at-2 : tie.Need-element-copy-out-layer-moment-at-2 Inv-loop μ-loop
+element-copy-out-layer-moment-at-2 c = search needs
 
-layer-moment-requires : tie.Need-layer-moment-requires Inv-loop μ-loop
-layer-moment-requires c κs = let s = start (c .before .before) in (s .pre .0 .bounded, (s .pre .1, ok (c .before .before)))
+layer-moment-at-requires : tie.Need-layer-moment-at-requires Inv-loop μ-loop
+layer-moment-at-requires c κs = let s = start (c .before .before) in (s .pre .0 .bounded, (s .pre .1, ok (c .before .before)))
 
 add-sum : tie.Need-add-sum Inv-loop μ-loop
 add-sum c = fits (grown c) tt
@@ -88,26 +89,24 @@ loop-less : tie.Need-loop-less Inv-loop μ-loop
 loop-less c = search needs
 
 loop-again : tie.Need-loop-again Inv-loop μ-loop
-unfolding steelResistance
 loop-again c =
     let a = c .before .before .before in
     let s = start a in
     let inv = turn a .loop .inv in
-    let l = layer-moment-in (s .pre .0 .bounded) (s .pre .1) (ok a) in (
+    let l = layer-at-in (s .pre .0 .bounded) (s .pre .1) (ok a) in (
       omega arith,
       (
-        rw (value (grown c) tt) (sum-step (λ zs. steelResistance (s .args .x) zs (s .args .u)) (toZ w64 (turn a .loop .sum)) (inv .1 .0) _ (here a) refl),
+        rw (value (grown c) tt) (sum-step (λ zs. steelAt (s .args .x) zs (s .args .u)) (toZ w64 (turn a .loop .sum)) (inv .1 .0) _ (here a) (steel-next (s .args .x) (s .args .u) _ _)),
         rw (value (grown c) tt) (up-to (add-in (inv .1 .1) l) (omega arith)),
       ),
     )
 
 returns : tie.Need-returns Inv-loop μ-loop
-unfolding steelResistance
 returns c =
     let at = c .before in
     let a = at .before .args in
     let none = over-in (a .depths .now) (a .areas .now) (a .count) (at .loop .i) (omega arith) in
-    sum-done (λ zs. steelResistance (a .x) zs (a .u)) (toZ w64 (at .loop .sum)) (at .loop .inv .1 .0) none refl
+    sum-done (λ zs. steelAt (a .x) zs (a .u)) (toZ w64 (at .loop .sum)) (at .loop .inv .1 .0) none (steel-none (a .x) (a .u))
 
 pub steel-resistance-spec : {M : Type 1} → statement M
 steel-resistance-spec =
@@ -116,11 +115,11 @@ steel-resistance-spec =
     Inv-loop
     μ-loop
     loop-holds
-    mul-layer-moment
-    element-copy-out-layer-moment
-    mul-layer-moment-2
-    element-copy-out-layer-moment-2
-    layer-moment-requires
+    mul-layer-moment-at
+    element-copy-out-layer-moment-at
+    mul-layer-moment-at-2
+    element-copy-out-layer-moment-at-2
+    layer-moment-at-requires
     add-sum
     add-i
     loop-less

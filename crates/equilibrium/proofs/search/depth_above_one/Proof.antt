@@ -1,4 +1,5 @@
--- `equilibrium::search::depth_above_one` meets its contract: the depth by the search, and 12 where that ends at 10h. Assumes nothing.
+-- `equilibrium::search::depth_above_one` meets its contract: the depth by the search, and beyond 10h where that ends there and N is not reached.
+-- Assumes nothing.
 use Prim.Native.Nat.{_+_, _-_, _*_, _≤_}
 use mathlib.Core.Bool.{true}
 use mathlib.Core.List.{List}
@@ -14,9 +15,9 @@ use Rattle.arith.proofs.Machine.{field}
 use Rattle.section.specs.declared.Layer.{Layer}
 use Rattle.section.specs.Code.Columns.{layersIn}
 use Rattle.equilibrium.specs.Refusals.{carries}
-use Rattle.equilibrium.specs.Depth.{depthFor}
+use Rattle.beyond.specs.Depth.{leastReaching}
 use Rattle.equilibrium.specs.Code.Whole.{excess}
-use Rattle.equilibrium.proofs.Found.{depth-clauses}
+use Rattle.equilibrium.proofs.Found.{face-clauses}
 use Rattle.equilibrium.proofs.DepthOne.{one-by}
 use Rattle.equilibrium.proofs.Trials.{top-short, top-reached, below-top}
 use Rattle.equilibrium.proofs.search.depth_above_one.Statement.{statement}
@@ -53,12 +54,11 @@ by-pairs-requires : tie.Need-by-pairs-requires
 by-pairs-requires c κs = let s = c .before in (rw (toZ-ofZ (s .fits .n)) (s .pre .0), rw (toZ-ofZ (s .fits .n)) (carried s))
 
 returns : tie.Need-returns
-unfolding depthFor
 returns c =
     let b = c .before in
     let s = b .before .before in
-    depth-clauses (s .args .n) (s .pre .0 .usable)
-    (rw (carried s, below-top (s .args .x) (ls s) (s .args .n) (high-enough s) (omega (arith, found b, c .if1 .taken)), found b))
+    face-clauses (s .args .n) (s .pre .0 .usable) (carried s)
+    (rw (below-top (s .args .x) (ls s) (s .args .n) (high-enough s) (omega (arith, found b, c .if1 .taken))) (found b))
 
 sub-excesses : tie.Need-sub-excesses
 sub-excesses c = search needs
@@ -68,21 +68,24 @@ excesses-requires c κs =
     let s = c .before .before .before in
     (rw (toZ-ofZ (s .fits .n)) (s .pre .0), omega (arith, s .pre .0 .usable .bounded .h-high))
 
+least-reaching-requires : tie.Need-least-reaching-requires
+least-reaching-requires c κs = c .before .before .before .before .before .before .before .pre .0 .usable
+
 returns-2 : tie.Need-returns-2
-unfolding depthFor
 returns-2 c =
-    let t = c .before in
+    let t = c .before .before in
     let s = t .before .before .before .before .before .before in
-    depth-clauses (s .args .n) (s .pre .0 .usable) (rw (carried s, top-short (s .args .x) (ls s) (s .args .n) (high-enough s) (top-read t) (c .if2 .taken)))
+    face-clauses (s .args .n) (s .pre .0 .usable) (carried s)
+    (rw (top-short (s .args .x) (ls s) (s .args .n) (high-enough s) (top-read t) (c .before .if2 .taken))
+    (c .least-reaching .ensures ∙ ap (leastReaching (s .args .x) (ls s)) (toZ-ofZ (s .fits .n))))
 
 returns-3 : tie.Need-returns-3
-unfolding depthFor
 returns-3 c =
     let t = c .before in
     let b = t .before .before .before .before in
     let s = b .before .before in
-    depth-clauses (s .args .n) (s .pre .0 .usable)
-    (rw (carried s, top-reached (s .args .x) (ls s) (s .args .n) (high-enough s) (top-read t) (c .if2 .left), found b))
+    face-clauses (s .args .n) (s .pre .0 .usable) (carried s)
+    (rw (top-reached (s .args .x) (ls s) (s .args .n) (high-enough s) (top-read t) (c .if2 .left)) (found b))
 
 pub depth-above-one-spec : {M : Type 1} → statement M
 depth-above-one-spec =
@@ -93,5 +96,6 @@ depth-above-one-spec =
     returns
     sub-excesses
     excesses-requires
+    least-reaching-requires
     returns-2
     returns-3)

@@ -1,16 +1,20 @@
--- `equilibrium::search::depth_for` meets its contract: 11 by one comparison, and what the search answers. Assumes nothing.
-use mathlib.Core.Bool.{false}
+-- `equilibrium::search::depth_for` meets its contract: 11 by one comparison, and the kind of the depth that is found. Assumes nothing.
+use mathlib.Core.Bool.{true, false}
 use mathlib.Core.List.{List}
-use mathlib.Core.Path.{_≡_, ap, _∙_}
+use mathlib.Core.Path.{_≡_, sym, ap, _∙_}
 use native.Mathlib.Omega.{arith}
+use borrow.Author.Needs.{needs}
+use lib.IntN.{ℤ}
 use mir.Facts.{toZ-ofZ}
 use Rattle.arith.proofs.Test.{failed, passed}
 use Rattle.section.specs.declared.Layer.{Layer}
 use Rattle.section.specs.Code.Columns.{layersIn}
+use Rattle.equilibrium.specs.declared.Depth.{Depth}
 use Rattle.equilibrium.specs.Refusals.{carries}
-use Rattle.equilibrium.specs.Depth.{depthFor}
+use Rattle.equilibrium.specs.Accuracy.{PromisedDepth}
+use Rattle.equilibrium.specs.Depth.{faceDepth, depthFor}
 use Rattle.equilibrium.specs.Code.Whole.{carriesAtOne}
-use Rattle.equilibrium.proofs.Found.{depth-clauses}
+use Rattle.equilibrium.proofs.Found.{kind, depth-kind, kind-none, kind-up-to, kind-beyond, depth-clauses}
 use Rattle.equilibrium.proofs.Sizes.{area-high}
 use Rattle.equilibrium.proofs.DepthOne.{one-by}
 use Rattle.equilibrium.proofs.search.depth_for.Statement.{statement}
@@ -39,10 +43,48 @@ depth-above-one-requires c κs =
     let s = c .before .before in
     (rw (toZ-ofZ (s .fits .n)) (s .pre), rw (toZ-ofZ (s .fits .n)) (passed (tested (c .before)) (c .if1 .left)))
 
+-- the depth that is found, and that 1 carries
+module _ (c : tie.After-depth-above-one) where
+  abbrev s : tie.Start
+  s = c .before .before .before
+
+  one : carries (s .args .x) (ls s) (s .args .n) 1 ≡ true
+  one = one-by (ls s) (s .args .n) (s .pre .usable) (s .pre .area) ∙ passed (tested (c .before .before)) (c .before .if1 .left)
+
+  depth-is : c .depth-above-one .result ≡ faceDepth (ls s) (s .args .n) (s .args .x)
+  depth-is = c .depth-above-one .ensures .0 ∙ ap (λ (z : ℤ). faceDepth (ls s) z (s .args .x)) (toZ-ofZ (s .fits .n))
+
+  -- an answer of its kind
+  ended : {r : Depth} → r ≡ kind (s .args .n) (s .pre .usable) one (c .depth-above-one .result)
+      → (r ≡ depthFor (s .args .x) (ls s) (s .args .n)) × PromisedDepth (s .args .x) (ls s) (s .args .n) r
+  ended e =
+      depth-clauses (s .args .n) (s .pre .usable)
+      (e ∙ ap (kind (s .args .n) (s .pre .usable) one) depth-is ∙ sym (depth-kind (s .args .n) (s .pre .usable) one))
+
 returns-2 : tie.Need-returns-2
-returns-2 c =
-    let s = c .before .before .before in
-    depth-clauses (s .args .n) (s .pre .usable) (c .depth-above-one .ensures .0 ∙ ap (depthFor (s .args .x) (ls s)) (toZ-ofZ (s .fits .n)))
+returns-2 c = let a = c .before in ended a (kind-none (s a .args .n) (s a .pre .usable) (one a) (c .if2 .taken))
+
+mul-if3 : tie.Need-mul-if3
+mul-if3 c = search needs
+
+returns-3 : tie.Need-returns-3
+returns-3 c =
+    let a = c .before .before .before in
+    ended a (kind-up-to (s a .args .n) (s a .pre .usable) (one a) _ (omega (arith, c .before .before .if2 .left)) (c .if3 .taken))
+
+returns-4 : tie.Need-returns-4
+returns-4 c =
+    let a = c .before .before .before in
+    ended a (kind-beyond (s a .args .n) (s a .pre .usable) (one a) _ (omega (arith, c .before .before .if2 .left)) (c .if3 .left))
 
 pub depth-for-spec : {M : Type 1} → statement M
-depth-for-spec = tie.close (tie.spec carries-at-one-requires returns depth-above-one-requires returns-2)
+depth-for-spec =
+    tie.close
+    (tie.spec
+    carries-at-one-requires
+    returns
+    depth-above-one-requires
+    returns-2
+    mul-if3
+    returns-3
+    returns-4)

@@ -1,0 +1,5 @@
+pub mod Moves
+pub mod Whole
+pub mod Sizes
+pub mod Bounds
+pub mod Intervals

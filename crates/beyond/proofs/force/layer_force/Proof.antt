@@ -1,0 +1,34 @@
+-- `beyond::force::layer_force` meets its contract. Assumes nothing.
+use Prim.Native.Nat.{ℕ, _/_}
+use mathlib.Core.Path.{_≡_, ap}
+use borrow.Author.Needs.{needs}
+use Rattle.section.specs.declared.Layer.{Layer}
+use Rattle.beyond.specs.declared.force.Share.{Share}
+use Rattle.beyond.specs.Code.Whole.{layerNewtons}
+use Rattle.beyond.proofs.Whole.{share-low}
+use Rattle.beyond.proofs.Sizes.{layer-most}
+use Rattle.beyond.proofs.force.layer_force.Statement.{statement}
+use Rattle.beyond.proofs.force.layer_force.Tie as tie
+
+abbrev layer : tie.Start → Layer
+layer s = record { depth = s .args .depth; area = s .args .area }
+
+share-at-requires : tie.Need-share-at-requires
+share-at-requires c κs = search needs
+
+div-result : tie.Need-div-result
+div-result c =
+    let a = c .before in
+    let s = a .before in
+    rw (a .share-at .ensures) (share-low (s .args .x) (layer s) (s .pre .0) (s .pre .1 .0) (s .pre .1 .1))
+
+returns : tie.Need-returns
+unfolding layerNewtons
+returns c =
+    let a = c .before in
+    let s = a .before in
+    let is = ap (λ (t : Share). t .p / t .q) (a .share-at .ensures) in
+    (is, rw is (layer-most {l = layer s} (s .pre .0) (s .pre .1 .0) (s .pre .1 .1)))
+
+pub layer-force-spec : {M : Type 1} → statement M
+layer-force-spec = tie.close (tie.spec share-at-requires div-result returns)

@@ -1,0 +1,3 @@
+pub mod Force
+pub mod Depth
+pub mod Code
