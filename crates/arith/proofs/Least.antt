@@ -1,6 +1,6 @@
 -- The least number that passes a test: numbers that fail are passed over, and what it says. Assumes nothing.
 use Prim.Native.Nat.{ℕ, zero, suc, _+_, _≤_, _<_}
-use mathlib.Core.Bool.{Bool, true, false, cond}
+use mathlib.Core.Bool.{Bool, true, false}
 use mathlib.Core.Logic.{⊎-elim}
 use mathlib.Core.Path.{_≡_, refl, subst}
 use native.Mathlib.Nat.{eq-or-lt-of-le}

@@ -1,5 +1,5 @@
 -- How large the numbers become beyond 10h. Assumes nothing.
-use Prim.Native.Nat.{ℕ, _-_, _*_, _/_, _≤_, _<_}
+use Prim.Native.Nat.{ℕ, _-_, _*_, _≤_, _<_}
 use mathlib.Core.Bool.{Bool, true, false, cond}
 use mathlib.Core.Path.{_≡_, refl}
 use native.Mathlib.Nat.{mul-le-mul, mul-le-mul-left, le-trans, div-le-of-le-mul}

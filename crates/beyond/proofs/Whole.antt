@@ -15,7 +15,6 @@ use Rattle.arith.proofs.Test.{same-test}
 use Rattle.section.specs.declared.Layer.{Layer}
 use Rattle.section.specs.declared.Design.{Design}
 use Rattle.section.specs.Code.Usable.{Bounded, LayerOk}
-use Rattle.beyond.specs.declared.force.Share.{Share}
 use Rattle.beyond.specs.Force.{blockDepth, concreteForce, concreteMoment, belowPoint, stress, layerForce, layerMoment}
 use Rattle.beyond.specs.Code.Range.{Beyond}
 use Rattle.beyond.specs.Code.Whole.{block, concreteNewtons, blockMoment, under, rise, yields, heldShare, freeShare, shareOf, layerNewtons}

@@ -64,7 +64,8 @@ module _ (x : Design) (top bottom : List Layer) (k : Links) (load : Load) where
       abbrev both : Bool
       both = reaches x top (load .n) && reaches x bottom (load .n)
 
-      by-both : {t : Bool} → both ≡ t → answer Refused (reported top bottom k load) (orElse (test 12 t) 0) (section.Ready x) ≡ checkFaces x top bottom k load
+      by-both : {t : Bool} → both ≡ t
+          → answer Refused (reported top bottom k load) (orElse (test 12 t) 0) (section.Ready x) ≡ checkFaces x top bottom k load
       unfolding checkFaces
       by-both e = rw (compressed, one, e)
 

@@ -23,14 +23,14 @@ use Rattle.section.specs.Section.{layersOf, counted}
 use Rattle.section.specs.Load.{forceOk}
 use Rattle.section.specs.Refusals.{accepted, answer}
 use Rattle.equilibrium.specs.Refusals.{carries, upTo10h, reaches, faceTests, faceTestsOf, findDepthTests, momentTests}
-use Rattle.section.specs.Code.Usable.{Bounded, Usable}
+use Rattle.section.specs.Code.Usable.{Usable}
 use Rattle.beyond.specs.Depth.{leastReaching}
 use Rattle.beyond.proofs.Intervals.{reached-in}
 use Rattle.equilibrium.specs.Depth as depth
 use Rattle.equilibrium.specs.Depth.{depthUnder, faceDepth, depthOf, depthAnswer, depthFor, depthIn, findDepth}
 use Rattle.equilibrium.specs.Moment.{refusalNumber, resistanceAt, momentIn, momentAt, momentFound}
 use Rattle.equilibrium.specs.Accuracy.{DepthPromise, PromisedDepth, AccurateFound, AccurateDepth}
-use Rattle.section.proofs.Usable.{section-promise, call-refused, call-ready, call-numbered, DepthsWithin, depths-within}
+use Rattle.section.proofs.Usable.{section-promise, call-refused, call-ready, call-numbered, depths-within}
 use Rattle.equilibrium.proofs.Accuracy.{depth-low, depth-high, accuracy}
 use Rattle.equilibrium.proofs.Range.{resistance-within}
 

@@ -3,7 +3,7 @@ use Prim.Native.Nat.{ℕ, _+_, _-_, _*_, _≤_}
 use mathlib.Core.Path.{_≡_, ap}
 use native.Mathlib.Nat.{mul-pos}
 use native.Mathlib.Omega.{arith}
-use Rattle.arith.specs.Fraction.{Fraction, Proper, whole, ratio, _-ᶠ_, _*ᶠ_, _/ᶠ_, _÷ᶠ_, _≤ᶠ_, Same, held}
+use Rattle.arith.specs.Fraction.{Fraction, Proper, whole, ratio, _-ᶠ_, _*ᶠ_, _/ᶠ_, _÷ᶠ_, Same}
 use Rattle.arith.proofs.Fraction.{tidy, proper, Positive, bounds, held-mono, same-most, same-least, same-of}
 use Rattle.section.specs.declared.Layer.{Layer}
 use Rattle.section.specs.declared.Design.{Design}

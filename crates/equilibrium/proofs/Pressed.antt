@@ -1,6 +1,6 @@
 -- Where no layer is in tension the internal force is above 0: so under N 0 some layer is, and the depth is up to 10h. Assumes nothing.
 use Prim.Native.Nat.{ℕ, _*_, _≤_}
-use mathlib.Core.Bool.{Bool, true, false}
+use mathlib.Core.Bool.{Bool, true}
 use mathlib.Core.List.{List, [], _∷_}
 use mathlib.Core.Path.{_≡_, refl, sym, _∙_}
 use native.Mathlib.Nat.{le-min, mul-le-mul-left, mul-pos}

@@ -11,7 +11,7 @@ use lib.ListN.{length}
 use Rattle.arith.specs.Fraction.{floor}
 use Rattle.arith.specs.Integer.{Within}
 use Rattle.arith.proofs.Fraction.{product-most}
-use Rattle.arith.proofs.Bound.{lit, mul-in, sub-in, add-in, up-to}
+use Rattle.arith.proofs.Bound.{lit, mul-in, sub-in, add-in}
 use Rattle.arith.proofs.Floor.{floor-in}
 use Rattle.arith.proofs.Test.{both-true}
 use Rattle.section.specs.declared.Layer.{Layer}

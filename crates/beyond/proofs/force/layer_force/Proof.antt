@@ -1,6 +1,6 @@
 -- `beyond::force::layer_force` meets its contract. Assumes nothing.
-use Prim.Native.Nat.{ℕ, _/_}
-use mathlib.Core.Path.{_≡_, ap}
+use Prim.Native.Nat.{_/_}
+use mathlib.Core.Path.{ap}
 use borrow.Author.Needs.{needs}
 use Rattle.section.specs.declared.Layer.{Layer}
 use Rattle.beyond.specs.declared.force.Share.{Share}

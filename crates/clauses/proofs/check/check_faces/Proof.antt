@@ -1,6 +1,6 @@
 -- `clauses::check::check_faces` meets its contract: one search for each face, where depth 1 carries for both. Assumes nothing.
-use Prim.Native.Nat.{ℕ, _≤_}
-use mathlib.Core.Bool.{true, false}
+use Prim.Native.Nat.{_≤_}
+use mathlib.Core.Bool.{true}
 use mathlib.Core.List.{List}
 use mathlib.Core.Path.{_≡_, sym, ap, _∙_}
 use native.Mathlib.Omega.{arith}
@@ -13,8 +13,6 @@ use Rattle.section.specs.declared.Layer.{Layer}
 use Rattle.section.specs.Code.Columns.{layersIn}
 use Rattle.equilibrium.specs.Refusals.{carries, reaches}
 use Rattle.equilibrium.specs.Depth.{faceDepth}
-use Rattle.equilibrium.specs.Accuracy.{DepthPromise}
-use Rattle.equilibrium.specs.Code.Whole.{Trial}
 use Rattle.equilibrium.proofs.DepthOne.{one-by}
 use Rattle.equilibrium.proofs.Found.{depth-reached}
 use Rattle.clauses.specs.declared.Checked.the-variants.{Done}

@@ -1,8 +1,6 @@
 -- `equilibrium::resistance::layer_moment_at` meets its contract: the page is chosen by the test. Assumes nothing.
-use native.Mathlib.Omega.{arith}
 use borrow.Author.Needs.{needs}
 use borrow.Author.Tests.{le-leb, lt-leb}
-use mathlib.Core.Path.{_∙_}
 use Rattle.arith.proofs.Machine.{result}
 use Rattle.equilibrium.proofs.Range.{within, beyond-it}
 use Rattle.equilibrium.proofs.resistance.layer_moment_at.Statement.{statement}

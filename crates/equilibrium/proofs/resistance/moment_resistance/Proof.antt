@@ -1,5 +1,4 @@
 -- `equilibrium::resistance::moment_resistance` meets its contract. Assumes nothing.
-use Prim.Native.Nat.{_*_, _≤_}
 use lib.IntN.{pos, _+ℤ_}
 use mathlib.Core.Path.{_≡_, sym, ap, _∙_}
 use native.Mathlib.Nat.{mul-le-mul}
@@ -13,7 +12,6 @@ use Rattle.arith.proofs.Bound.{fits64}
 use Rattle.section.specs.Code.Columns.{layersIn}
 use Rattle.beyond.specs.Code.Whole.{block, blockMoment}
 use Rattle.equilibrium.specs.Moment.{resistanceAt}
-use Rattle.equilibrium.specs.Code.Whole.{BlockBounds}
 use Rattle.equilibrium.proofs.Range.{range-most, block-bounds, concrete-at, resistance-parts, resistance-in}
 use Rattle.equilibrium.proofs.resistance.moment_resistance.Statement.{statement}
 use Rattle.equilibrium.proofs.resistance.moment_resistance.Tie as tie

@@ -96,7 +96,9 @@ loop-again c =
     let l = layer-at-in (s .pre .0 .bounded) (s .pre .1) (ok a) in (
       omega arith,
       (
-        rw (value (grown c) tt) (sum-step (λ zs. steelAt (s .args .x) zs (s .args .u)) (toZ w64 (turn a .loop .sum)) (inv .1 .0) _ (here a) (steel-next (s .args .x) (s .args .u) _ _)),
+        rw (value (grown c) tt)
+            (sum-step (λ zs. steelAt (s .args .x) zs (s .args .u)) (toZ w64 (turn a .loop .sum)) (inv .1 .0) _ (here a)
+            (steel-next (s .args .x) (s .args .u) _ _)),
         rw (value (grown c) tt) (up-to (add-in (inv .1 .1) l) (omega arith)),
       ),
     )
