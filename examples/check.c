@@ -38,7 +38,7 @@ static salwoerk_section column(void)
     return c;
 }
 
-/* What is to be said of a depth: beyond 10h the neutral axis lies below the section. */
+/* What is to be said of a depth: beyond 10h the neutral axis lies outside the section. */
 static const char *kind(int64_t height, uint64_t depth)
 {
     return salwoerk_is_beyond(height, depth) ? " (compressed over the full height)" : "";

@@ -53,7 +53,7 @@ def column():
 
 
 def is_beyond(section, depth):
-    """The neutral axis lies below the section, as salwoerk_is_beyond of the header says it."""
+    """The neutral axis lies outside the section, as salwoerk_is_beyond of the header says it."""
     return depth > 10 * section.height
 
 

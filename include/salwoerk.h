@@ -129,7 +129,7 @@ static inline const char *salwoerk_refusal_text(uint64_t refusal)
     case SALWOERK_BENDING_MOMENT: return "M beyond 1,000,000,000,000 N mm, either sign";
     case SALWOERK_SHEAR_FORCE: return "V beyond 500,000,000 N, either sign";
     case SALWOERK_BELOW_RANGE: return "N below the internal force at depth 1";
-    case SALWOERK_ABOVE_RANGE: return "N above the internal force at every depth up to 30h, in Check of either face";
+    case SALWOERK_ABOVE_RANGE: return "no depth up to 30h reaches N; in Check, from the top or from the bottom";
     case SALWOERK_DEPTH: return "depth not 1 to 30h tenths of a millimetre";
     case SALWOERK_NO_MAP: return "fewer than 4 bytes";
     case SALWOERK_UNKNOWN_BIT: return "one of bits 26 to 31 of the map stands";
@@ -146,7 +146,8 @@ static inline const char *salwoerk_refusal_text(uint64_t refusal)
     }
 }
 
-/* The clause of EN 1992-1-1 behind a refusal: "" where its bound is the engine's own. */
+/* The clause of EN 1992-1-1 behind a refusal: "" where its bound is the engine's own. (Of 12 the clause is 6.1, but that the depth ends at 30h is the
+ * engine's.) */
 static inline const char *salwoerk_refusal_clause(uint64_t refusal)
 {
     switch (refusal) {
@@ -155,8 +156,7 @@ static inline const char *salwoerk_refusal_clause(uint64_t refusal)
     case SALWOERK_SITUATION: return "Table 2.1N";
     case SALWOERK_ALPHA_CC: return "3.1.6(1)";
     case SALWOERK_BELOW_RANGE:
-    case SALWOERK_ABOVE_RANGE:
-    case SALWOERK_DEPTH: return "6.1";
+    case SALWOERK_ABOVE_RANGE: return "6.1";
     default: return "";
     }
 }
@@ -236,7 +236,7 @@ salwoerk_moment salwoerk_moment_at(salwoerk_section section, uint64_t depth);
  * second, third, fourth and sixth verdict are 2. */
 typedef struct {
     uint64_t refusal;
-    uint64_t u; /* 1 to 30h, of either kind */
+    uint64_t u; /* 1 to 30h, of either kind; 0 where refused */
     int64_t mrd;
     uint64_t other_u; /* likewise */
     int64_t other_mrd;

@@ -405,7 +405,7 @@ static void rounded_parts(void)
         && is_pressed(&r));
 }
 
-/* Check of A where the top is beyond 10h and the bottom is not: only what is shown of the bottom has a tension layer. */
+/* Check of A where the top is beyond 10h and the bottom is not. */
 static void one_face_beyond(void)
 {
     salwoerk_load load = { 2505000, 0, 0 };

@@ -5,10 +5,10 @@ use mathlib.Core.List.{List}
 use mathlib.Core.Path.{_≡_, sym, _∙_}
 use native.Mathlib.Omega.{arith}
 use lib.IntN.{ℤ}
-use lib.Signed.{ltZ, _≤ℤ_, _<ℤ_}
+use lib.Signed.{ltZ}
 use Rattle.arith.specs.Greatest.{least, IsLeast}
 use Rattle.arith.proofs.Least.{skip, least-first, least-none, least-is, least-fails}
-use Rattle.arith.proofs.Ring.{#, lt!, le?, lt?}
+use Rattle.arith.proofs.Ring.{≤ℤ-<ℤ-trans}
 use Rattle.arith.proofs.Test.{lt-true, lt-false, true-le, false-le}
 use Rattle.section.specs.declared.Layer.{Layer}
 use Rattle.section.specs.declared.Design.{Design}
@@ -17,9 +17,6 @@ use Rattle.beyond.specs.Force.{internalForce}
 use Rattle.beyond.specs.Code.Bound.{bound}
 use Rattle.beyond.specs.Code.Range.{Beyond}
 use Rattle.beyond.proofs.Moves.{interval, one-depth}
-
-≤-<-trans : (x y z : ℤ) → x ≤ℤ y → y <ℤ z → x <ℤ z
-≤-<-trans x y z h k = lt! (# x) (# z) (omega (arith, le? (# x) (# y) h, lt? (# y) (# z) k))
 
 module _ (x : Design) (ls : List Layer) (N : ℤ) where
   abbrev end : ℕ
@@ -43,7 +40,7 @@ module _ (x : Design) (ls : List Layer) (N : ℤ) where
     fails : (i : ℕ) → a ≤ i → i < b + 1 → reachedAt x ls N i ≡ false
     fails i h g =
         false-le N (internalForce x ls i)
-        (≤-<-trans (internalForce x ls i) (bound x ls a b) N (interval x e-low (w .low) h (omega arith) ls) (lt-true _ _ e))
+        (≤ℤ-<ℤ-trans (interval x e-low (w .low) h (omega arith) ls) (lt-true _ _ e))
 
     pub skipped : {m : ℕ} → m ≡ min (b + 1 + 2 * (b - a) + 1) end → Left (b + 1) m
     skipped m-is =

@@ -8,9 +8,9 @@ use native.Mathlib.Omega.{arith}
 use borrow.Author.Tests.{leb-true, leb-false}
 use lib.IntN.{ℤ, pos, _+ℤ_}
 use lib.Signed.{_≤ℤ_, ≤ℤ-refl}
-use Rattle.arith.specs.Fraction.{Fraction, Proper, whole, _-ᶠ_, _*ᶠ_, _/ᶠ_, _÷ᶠ_, _≤ᶠ_, floor}
+use Rattle.arith.specs.Fraction.{Fraction, Proper, whole, _-ᶠ_, _*ᶠ_, _/ᶠ_, _÷ᶠ_, _≤ᶠ_, held, floor}
 use Rattle.arith.proofs.Fraction.{tidy, Positive, proper, whole-mono, held-proper, bounds, held-mono, floor-mono}
-use Rattle.arith.proofs.Ring.{#, _⊕_, le!, le?}
+use Rattle.arith.proofs.Ring.{add-order}
 use Rattle.section.specs.declared.Layer.{Layer}
 use Rattle.section.specs.declared.Design.{Design}
 use Rattle.beyond.specs.Force.{blockDepth, concreteForce, belowPoint, stress, layerForce, steelForce, internalForce}
@@ -77,12 +77,18 @@ scaled-up g h e d l = omega arith
 scaled-down : (g h e d : ℕ) → e * d < g * h → 10 * d * e ≤ 10 * g * h
 scaled-down g h e d l = omega arith
 
-add-order : {a b c d : ℤ} → a ≤ℤ b → c ≤ℤ d → (a +ℤ c) ≤ℤ (b +ℤ d)
-add-order {a} {b} {c} {d} h k = le! (# a ⊕ # c) (# b ⊕ # d) (omega (arith, le? (# a) (# b) h, le? (# c) (# d) k))
-
 -- the stress before it is held
 abbrev pub free : Design → Layer → ℕ → Fraction
 free x l u = whole (x .m .d * x .m .e) *ᶠ (whole u /ᶠ 10 -ᶠ whole (l .depth)) ÷ᶠ belowPoint x u
+
+-- what stands below the line, and the stress that is held: for the parts above
+pub below-is : (x : Design) (u : ℕ) → belowPoint x u ≡ record { p = under x u; q = 10 }
+unfolding belowPoint
+below-is x u = refl
+
+pub stress-is : (x : Design) (l : Layer) (u : ℕ) → stress x l u ≡ held (whole 0 -ᶠ whole (x .m .s) /ᶠ 100) (whole (x .m .s) /ᶠ 100) (free x l u)
+unfolding stress
+stress-is x l u = refl
 
 module _ (x : Design) (e-low : 1 ≤ x .m .e) where
   pub under-is : {u : ℕ} → 10 * x .h < u → Under x u
@@ -117,11 +123,7 @@ module _ (x : Design) (e-low : 1 ≤ x .m .e) where
     free-up g =
         let m = up (x .m .d * x .m .e) u v (under x u) (under x v) (x .m .e) (10 * l .depth) (10 * (x .m .e - x .m .d) * x .h)
         (under-is b .is) (under-v .is) h g in
-        record { le = simp tidy (hundred _ _ _ _ (under x u) (under x v) m) }
-      where
-        hundred : (k u v t o p : ℕ) → k * u * p + k * (10 * t) * o ≤ k * v * o + k * (10 * t) * p
-            → k * u * 10 * (10 * p) + k * (t * 10) * 10 * (10 * o) ≤ k * v * 10 * (10 * o) + k * (t * 10) * 10 * (10 * p)
-        hundred k u v t o p m = omega arith
+        record { le = simp tidy (omega (arith, m)) }
 
     free-down : 10 * l .depth * x .m .e ≤ 10 * (x .m .e - x .m .d) * x .h → free x l v ≤ᶠ free x l u
     unfolding belowPoint whole _*ᶠ_ _-ᶠ_ _/ᶠ_ _÷ᶠ_

@@ -1,14 +1,15 @@
 -- Beyond 10h a layer's force is p/q newtons, of two naturals: force and moment are then quotients of whole numbers. Assumes nothing.
 use Prim.Native.Nat.{ℕ, _+_, _-_, _*_, _/_, _≤_, _<_}
 use mathlib.Core.Bool.{Bool, true, false, cond}
+use mathlib.Core.List.{List, [], _∷_}
 use mathlib.Core.Path.{_≡_, refl, sym, ap, _∙_}
 use native.Mathlib.Nat.{mul-pos}
 use native.Mathlib.Omega.{arith}
 use borrow.Author.Tests.{leb-true, le-leb, lt-leb}
-use lib.IntN.{pos}
+use lib.IntN.{pos, _+ℤ_}
 use Rattle.arith.specs.Fraction.{Fraction, Proper, whole, _-ᶠ_, _*ᶠ_, _/ᶠ_, _÷ᶠ_, _≤ᶠ_, _<ᶠ_, Same, atMost, held, floor}
 use Rattle.arith.specs.Floor.{floorDiv}
-use Rattle.arith.proofs.Fraction.{tidy, proper, ≤ᶠ-clash, Tested, Tested.below, Tested.above, tested, passes, holds-true}
+use Rattle.arith.proofs.Fraction.{tidy, proper, tested, passes, holds-true, fails-false}
 use Rattle.arith.proofs.Quotient.{same-trans, same-mul, per, per-proper, by-value, floor-same}
 use Rattle.arith.proofs.Ring.{E, #, _⊝_, _⊗_, val}
 use Rattle.arith.proofs.Test.{same-test}
@@ -16,6 +17,7 @@ use Rattle.section.specs.declared.Layer.{Layer}
 use Rattle.section.specs.declared.Design.{Design}
 use Rattle.section.specs.Code.Usable.{Bounded, LayerOk}
 use Rattle.beyond.specs.Force.{blockDepth, concreteForce, concreteMoment, belowPoint, stress, layerForce, layerMoment}
+use Rattle.beyond.specs.Force.{steelResistance, momentResistance}
 use Rattle.beyond.specs.Code.Range.{Beyond}
 use Rattle.beyond.specs.Code.Whole.{block, concreteNewtons, blockMoment, under, rise, yields, heldShare, freeShare, shareOf, layerNewtons}
 use Rattle.beyond.proofs.Moves.{Under, under-is, free, layer-proper, concrete-proper}
@@ -66,10 +68,6 @@ module _ (x : Design) (l : Layer) (u : ℕ) {p q : ℕ} (p-is : p ≡ rise x (l 
   free-arm h =
       let t : yields x (l .depth) u ≡ false = lt-leb _ _ (rw (p-is, q-is) at h) in
       rw (t, p-is, q-is)
-
-fails-false : {a b : Fraction} {t : Bool} → Tested a b t → b <ᶠ a → t ≡ false
-fails-false (below h) k = absurd (≤ᶠ-clash h k)
-fails-false (above h) k = refl
 
 module _ (x : Design) (l : Layer) {u : ℕ} (bd : Bounded x) (by-u : Beyond x u) (ok : LayerOk (x .h) l) where
   e-low : 1 ≤ x .m .e
@@ -157,3 +155,18 @@ module _ (x : Design) (l : Layer) {u : ℕ} (bd : Bounded x) (by-u : Beyond x u)
 
   pub moment-whole : floor (layerMoment x l u) ≡ floorDiv (val moment) (pos (2 * shareOf x l u .q))
   moment-whole = floor-same (val moment) moment-proper (omega (arith, share-low)) moment-same
+
+-- ---- the moment of the section, part by part: for the parts above
+
+module _ (x : Design) (u : ℕ) where
+  pub steel-none : steelResistance x [] u ≡ pos 0
+  unfolding steelResistance
+  steel-none = refl
+
+  pub steel-next : (l : Layer) (ls : List Layer) → steelResistance x (l ∷ ls) u ≡ floor (layerMoment x l u) +ℤ steelResistance x ls u
+  unfolding steelResistance
+  steel-next l ls = refl
+
+  pub resistance-is : (ls : List Layer) → momentResistance x ls u ≡ floor (concreteMoment x u) +ℤ steelResistance x ls u
+  unfolding momentResistance
+  resistance-is ls = refl

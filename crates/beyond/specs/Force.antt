@@ -1,5 +1,6 @@
 -- Force and moment of a section that is compressed over its full height: at a whole depth u beyond 10h, up to 30h tenths of a millimetre.
--- Document 02, ticket 11, after clause 6.1: the strain line turns about the point at (1 − D/E)·h from the compressed face. Assumes nothing.
+-- Document 02, ticket 11, after clause 6.1: the strain line turns about the point at (1 − D/E)·h from the compressed face. The ticket's x is
+-- u/10, the depth in millimetres; the letter x below is the design's. Assumes nothing.
 use Prim.Native.Nat.{ℕ, min, _-_, _*_}
 use mathlib.Core.List.{List, [], _∷_}
 use lib.IntN.{ℤ, pos, _+ℤ_}
@@ -30,6 +31,10 @@ module _ (x : Design) where
   abbrev s : ℕ
   s = x .m .s
 
+  -- ticket 11's x = u/10
+  abbrev axis : ℕ → Fraction
+  axis u = whole u /ᶠ 10
+
   -- the block's depth in millimetres: L·x/80, at most h. With x = u/10 it is the lesser of L·u and 800h, over 800
   unfoldable pub blockDepth : ℕ → Fraction
   blockDepth u = whole (min (L * u) (800 * h)) /ᶠ 800
@@ -45,7 +50,7 @@ module _ (x : Design) where
   -- stress in a layer: D·E·(x − d)/(E·x − (E − D)·h) (6.1), held between −s/100 and +s/100 (3.2.7); compression is positive
   unfoldable pub stress : Layer → ℕ → Fraction
   stress l u =
-      held (whole 0 -ᶠ whole s /ᶠ 100) (whole s /ᶠ 100) (whole (D * E) *ᶠ (whole u /ᶠ 10 -ᶠ whole (l .depth)) ÷ᶠ belowPoint u)
+      held (whole 0 -ᶠ whole s /ᶠ 100) (whole s /ᶠ 100) (whole (D * E) *ᶠ (axis u -ᶠ whole (l .depth)) ÷ᶠ belowPoint u)
 
   -- a layer's force: area times stress
   unfoldable pub layerForce : Layer → ℕ → Fraction

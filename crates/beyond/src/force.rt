@@ -3,11 +3,12 @@
 use section::Design;
 ghost use Prim.Native.Nat.{_≤_};
 ghost use mathlib.Core.Path.{_≡_};
+ghost use lib.IntN.{pos};
 ghost use Rattle.arith.specs.Fraction.{floor};
 ghost use Rattle.section.specs.Code.Usable.{Bounded, LayerOk};
-ghost use Rattle.beyond.specs.Force.{layerMoment};
+ghost use Rattle.beyond.specs.Force.{concreteForce, layerForce, layerMoment};
 ghost use Rattle.beyond.specs.Code.Range.{Beyond};
-ghost use Rattle.beyond.specs.Code.Whole.{concreteNewtons, under, rise, shareOf, layerNewtons};
+ghost use Rattle.beyond.specs.Code.Whole.{block, concreteNewtons, under, rise, shareOf, layerNewtons};
 
 // A layer's force, not rounded: p/q newtons.
 pub struct Share {
@@ -15,12 +16,21 @@ pub struct Share {
     pub q: u64,
 }
 
+// The block's depth in 1/800 mm, at most that of the section: at every depth up to 30h, up to 10h too.
+pub fn block_at(x: Design, u: u64) -> u64
+    requires { ⌜ Bounded x × (u ≤ 60000) ⌝ }
+    ensures { λ r. ⌜ r ≡ block x u ⌝ }
+{
+    arith::lesser(x.m.l * u, 800 * x.h)
+}
+
 // The concrete's force, rounded down.
 pub fn concrete_force(x: Design, u: u64) -> u64
     requires { ⌜ Bounded x × Beyond x u ⌝ }
-    ensures { λ r. ⌜ (r ≡ concreteNewtons x u) × (r ≤ 240000000) ⌝ }
+    ensures { λ r. ⌜ pos r ≡ floor (concreteForce x u) ⌝ }
+    ensures newtons { λ r. ⌜ (r ≡ concreteNewtons x u) × (r ≤ 240000000) ⌝ }
 {
-    x.m.f * x.b * arith::lesser(x.m.l * u, 800 * x.h) / 80000
+    x.m.f * x.b * block_at(x, u) / 80000
 }
 
 // D·E·(u − 10d), above the line.
@@ -60,7 +70,8 @@ fn share_at(x: Design, depth: u32, area: u32, u: u64) -> Share
 // A layer's force, rounded down.
 pub fn layer_force(x: Design, depth: u32, area: u32, u: u64) -> u64
     requires { ⌜ Bounded x × (Beyond x u × LayerOk (x .h) (record { depth = depth; area = area })) ⌝ }
-    ensures { λ r. ⌜ (r ≡ layerNewtons x (record { depth = depth; area = area }) u) × (r ≤ 12000000) ⌝ }
+    ensures { λ r. ⌜ pos r ≡ floor (layerForce x (record { depth = depth; area = area }) u) ⌝ }
+    ensures newtons { λ r. ⌜ (r ≡ layerNewtons x (record { depth = depth; area = area }) u) × (r ≤ 12000000) ⌝ }
 {
     let t = share_at(x, depth, area, u);
     t.p / t.q

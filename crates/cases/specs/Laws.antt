@@ -7,7 +7,7 @@ use mathlib.Core.Path.{_≡_, refl}
 use lib.IntN.{ℤ, negℤ}
 use lib.Signed.{_<ℤ_}
 use lib.ListN.{length}
-use Rattle.arith.specs.Fraction.{Same}
+use Rattle.arith.specs.Fraction.{Ratio, Same, integer, _<ᶠ_}
 use Rattle.arith.specs.Greatest.{IsGreatest, IsLeast}
 use Rattle.section.specs.declared.Layer.{Layer}
 use Rattle.section.specs.declared.Links.{Links}
@@ -22,8 +22,9 @@ use Rattle.beyond.specs.Force as beyond
 use Rattle.beyond.specs.Depth.{reachedAt, leastReaching}
 use Rattle.beyond.specs.Code.Range.{Beyond}
 use Rattle.beyond.proofs.Intervals as intervals
-use Rattle.equilibrium.specs.Force.{at, stress}
-use Rattle.equilibrium.specs.Refusals.{carries}
+use Rattle.equilibrium.specs.Accuracy.{Range}
+use Rattle.equilibrium.specs.Force.{at, stress, internalForce}
+use Rattle.equilibrium.specs.Refusals.{carries, upTo10h}
 use Rattle.section.specs.Turned.{turned}
 use Rattle.equilibrium.specs.Depth.{findDepth}
 use Rattle.equilibrium.specs.Moment.{momentAt}
@@ -31,6 +32,7 @@ use Rattle.section.proofs.Turned.{usable-turned}
 use Rattle.section.proofs.Usable.{usable-by}
 use Rattle.equilibrium.proofs.Found as equilibrium
 use Rattle.equilibrium.proofs.DepthOne as depthOne
+use Rattle.equilibrium.proofs.Accuracy as accuracy
 use Rattle.equilibrium.proofs.Meeting as meeting
 use Rattle.shear.specs.SizeFactor.{K}
 use Rattle.shear.specs.Shear.{rTest, r, qTest, q}
@@ -102,6 +104,11 @@ none-between = clauses.none-between
 -- at 10h the page of the depths beyond it gives the same stress as the page up to it
 pub same-stress : (x : Design) (l : Layer) → Bounded x → Same (stress x l (at (10 * x .h))) (beyond.stress x l (10 * x .h))
 same-stress = meeting.same-stress
+
+-- "no u up to 30h reaches N": where N is above the internal force at 10h, it is above that at every depth up to 10h
+pub none-up-to : (x : Design) (ls : List Layer) (N : ℤ) → Bounded x → upTo10h x ls N ≡ false → (y : Ratio) → Range (x .h) y
+    → internalForce x ls y <ᶠ integer N
+none-up-to = accuracy.none-up-to
 
 -- the depth beyond 10h, where there is one: the internal force there is at least N, and below N at every one before it; and where there is none it is
 -- below N at every one

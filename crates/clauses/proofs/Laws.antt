@@ -134,7 +134,17 @@ no-tension-report : (x : Design) (ls : List Layer) (k : Links) (load : Load) (fa
     → Unreached (reportOf x ls k load face other moment)
 unfolding reportOf VRdc linkedReport total meanDepth
 no-tension-report x ls k load face other moment e =
-    rw (e, and-no (not (absent k))) (record { area = refl; dm = refl; vrd = refl; depth = refl; shear = refl; least = refl; links = refl })
+    rw (e, and-no (not (absent k))) (record {
+      area = refl;
+      dm = refl;
+      vrd = refl;
+      cotangent = refl;
+      resistance = refl;
+      depth = refl;
+      shear = refl;
+      least = refl;
+      links = refl;
+    })
 
 -- of two faces, that of the face compressed
 of-face : (x : Design) (ls below : List Layer) (k : Links) (load : Load) (t b : ℕ) (z : Bool) (moment : Verdict)

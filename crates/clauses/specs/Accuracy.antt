@@ -35,7 +35,7 @@ bottomOf M r = cond (leZ (pos 0) M) (r .other) (shown r)
 abbrev pub AccurateFace : Design → List Layer → ℤ → Face → Type 0
 AccurateFace x ls N face = face .u ≤ 10 * x .h → Accurate x ls N (face .u) (face .mrd)
 
--- The depth of each face is accurate, with the resistance that verdict one takes for it.
+-- The depth of each face, where it is up to 10h, is accurate, with the resistance that verdict one takes for it.
 pub record AccurateFaces (x : Design) (ls : List Layer) (load : Load) (r : Report) : Type 0 where
   pub top : AccurateFace x ls (load .n) (topOf (load .m) r)
   pub bottom : AccurateFace x (turned (x .h) ls) (load .n) (bottomOf (load .m) r)

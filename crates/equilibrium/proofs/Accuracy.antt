@@ -1,6 +1,6 @@
 -- Demand 3 of document 01: the one theorem, of any numbers that keep the promise and of either face. Assumes nothing.
 use Prim.Native.Nat.{ℕ, _+_, _*_, _≤_}
-use mathlib.Core.Bool.{Bool, true}
+use mathlib.Core.Bool.{Bool, true, false}
 use mathlib.Core.List.{List}
 use mathlib.Core.Path.{_≡_}
 use native.Mathlib.Nat.{mul-pos, le-of-mul-le-mul-right}
@@ -8,13 +8,13 @@ use native.Mathlib.Omega.{arith}
 use lib.IntN.{ℤ}
 use Rattle.arith.specs.Fraction.{Proper, Ratio, whole, integer, ratio, _≤ᶠ_, _<ᶠ_}
 use Rattle.arith.specs.Greatest.{greatest}
-use Rattle.arith.proofs.Fraction.{Positive, proper, integer-proper, Tested, Tested.below, Tested.above, tested, passes, holds-true, ≤ᶠ-trans, <ᶠ-≤ᶠ-trans}
+use Rattle.arith.proofs.Fraction.{Positive, proper, integer-proper, Tested, Tested.below, Tested.above, tested, passes, fails, holds-true, ≤ᶠ-trans, <ᶠ-≤ᶠ-trans, ≤ᶠ-<ᶠ-trans}
 use Rattle.arith.proofs.Greatest.{NeverBack, greatest-le, le-greatest, greatest-passes}
 use Rattle.section.specs.declared.Layer.{Layer}
 use Rattle.section.specs.declared.Design.{Design}
 use Rattle.section.specs.Code.Usable.{Bounded}
 use Rattle.equilibrium.specs.Force.{at, internalForce, momentResistance}
-use Rattle.equilibrium.specs.Refusals.{carries}
+use Rattle.equilibrium.specs.Refusals.{carries, upTo10h}
 use Rattle.equilibrium.specs.Accuracy.{Range, growth, allowance, Accurate}
 use Rattle.section.proofs.Usable.{DepthsWithin}
 use Rattle.equilibrium.proofs.Rising.{at-positive, at-whole, force-proper, force-mono, force-strict}
@@ -91,3 +91,12 @@ module _ (x : Design) (ls : List Layer) (N : ℤ) (ok : Bounded x) (one : carrie
     above = above-depth;
     near = λ y r low high. moment-near x ls u within (ok .materials .L-high) depth-low (positive r) low (r .high);
   }
+
+-- where N is above the internal force at 10h, it is above that at every depth up to 10h: none of them reaches N
+pub none-up-to : (x : Design) (ls : List Layer) (N : ℤ) → Bounded x → upTo10h x ls N ≡ false → (y : Ratio) → Range (x .h) y
+    → internalForce x ls y <ᶠ integer N
+unfolding upTo10h
+none-up-to x ls N ok e y r =
+    let py = positive r in
+    let pt = at-positive (10 * x .h) (omega (arith, ok .h-low)) in
+    ≤ᶠ-<ᶠ-trans (force-proper x py ls) (force-mono x py pt ls (rw (at-whole (10 * x .h)) (r .high))) (fails (tested _ _) e)

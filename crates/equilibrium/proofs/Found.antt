@@ -149,7 +149,7 @@ module _ {x : Design} {count : ℕ} {ls : List Layer} (N : ℤ) (w : Usable x co
   above-promise = rw depth-kind (kind-promised (faceDepth ls N x) depth-promise)
 
 -- the promise of the answer, by cases of the test for 11
-pub answer-promise : {x : Design} {count : ℕ} {ls : List Layer} (N : ℤ) → Usable x count ls → PromisedDepth x ls N (depthFor x ls N)
+answer-promise : {x : Design} {count : ℕ} {ls : List Layer} (N : ℤ) → Usable x count ls → PromisedDepth x ls N (depthFor x ls N)
 unfolding depthFor
 answer-promise {x} {ls = ls} N w = go (carries x ls N 1) refl
   where

@@ -1,5 +1,5 @@
 -- Where the two pages meet: at u = 10h the stress beyond 10h is the one up to it. Assumes nothing.
-use Prim.Native.Nat.{ℕ, _+_, _-_, _*_, _≤_}
+use Prim.Native.Nat.{ℕ, _+_, _-_, _*_, _≤_, _<_}
 use mathlib.Core.Path.{_≡_, ap}
 use native.Mathlib.Nat.{mul-pos}
 use native.Mathlib.Omega.{arith}
@@ -10,7 +10,7 @@ use Rattle.section.specs.declared.Design.{Design}
 use Rattle.section.specs.Code.Usable.{Bounded}
 use Rattle.beyond.specs.Force as beyond
 use Rattle.beyond.specs.Code.Whole.{under}
-use Rattle.beyond.proofs.Moves.{free}
+use Rattle.beyond.proofs.Moves.{free, below-is, stress-is}
 use Rattle.equilibrium.specs.Force.{at, stress}
 use Rattle.equilibrium.proofs.Rising.{at-positive}
 
@@ -29,20 +29,20 @@ module _ (x : Design) (l : Layer) (b : Bounded x) where
   line = under-at (x .m .e) (x .m .d) (x .h) (b .materials .D-most)
 
   free-same : Same here (free x l (10 * x .h))
-  unfolding beyond.belowPoint whole ratio at _*ᶠ_ _-ᶠ_ _/ᶠ_ _÷ᶠ_
-  free-same = record { same = rw line (simp tidy (omega arith)) }
+  unfolding whole ratio at _*ᶠ_ _-ᶠ_ _/ᶠ_ _÷ᶠ_
+  free-same = rw (below-is x (10 * x .h), line) (record { same = simp tidy (omega arith) })
 
   here-proper : Proper here
   here-proper = let p = at-positive (10 * x .h) (omega (arith, b .h-low)) in search proper
 
   there-proper : Proper (free x l (10 * x .h))
   there-proper =
-      let p : Positive (beyond.belowPoint x (10 * x .h)) = unfold beyond.belowPoint in
-      record { p-pos = rw line (mul-pos (mul-pos (omega arith) (b .materials .D-low)) (omega (arith, b .h-low))); q-pos = omega arith } in
+      let low : 0 < 10 * x .m .d * x .h = mul-pos (mul-pos (omega arith) (b .materials .D-low)) (omega (arith, b .h-low)) in
+      let p : Positive (beyond.belowPoint x (10 * x .h)) = rw (below-is x (10 * x .h), line) (record { p-pos = low; q-pos = omega arith }) in
       search proper
 
   pub same-stress : Same (stress x l (at (10 * x .h))) (beyond.stress x l (10 * x .h))
-  unfolding stress beyond.stress
-  same-stress =
-      same-of (held-mono here-proper there-proper (bounds (x .m .s) 100) (same-most free-same))
-      (held-mono there-proper here-proper (bounds (x .m .s) 100) (same-least free-same))
+  unfolding stress
+  same-stress = rw (stress-is x l (10 * x .h))
+      (same-of (held-mono here-proper there-proper (bounds (x .m .s) 100) (same-most free-same))
+      (held-mono there-proper here-proper (bounds (x .m .s) 100) (same-least free-same)))

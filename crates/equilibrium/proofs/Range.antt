@@ -23,6 +23,7 @@ use Rattle.beyond.specs.Force as beyond
 use Rattle.beyond.specs.Code.Range.{Beyond}
 use Rattle.beyond.specs.Code.Whole.{block, blockMoment}
 use Rattle.beyond.proofs.Whole.{concrete-moment-whole}
+use Rattle.beyond.proofs.Whole as beyond-parts
 use Rattle.beyond.proofs.Sizes as beyond-sizes
 use Rattle.equilibrium.specs.Force.{at, concreteMoment, steelResistance, momentResistance}
 use Rattle.equilibrium.specs.Moment.{resistanceAt}
@@ -37,26 +38,27 @@ range-most b d = omega (arith, b .h-high, d .high)
 -- ---- the two kinds
 
 module _ {x : Design} {u : ℕ} (d : DepthRange x u) where
-  pub within : u ≤ 10 * x .h → DepthOk x u
-  within h = record { low = d .low; high = h }
+  pub depth-within : u ≤ 10 * x .h → DepthOk x u
+  depth-within h = record { low = d .low; high = h }
 
-  pub beyond-it : 10 * x .h < u → Beyond x u
-  beyond-it h = record { low = h; high = d .high }
+  pub depth-beyond : 10 * x .h < u → Beyond x u
+  depth-beyond h = record { low = h; high = d .high }
 
 -- ---- the concrete
 
 pub block-bounds : {x : Design} (u : ℕ) → Bounded x → BlockBounds (x .m .f) (x .b) (x .h) (block x u)
 block-bounds u b = record { f-high = b .materials .f-high; b-high = b .b-high; h-high = b .h-high; k-high = omega arith }
 
-module _ {x : Design} {u : ℕ} (b : Bounded x) (d : DepthRange x u) where
-  abbrev concreteAt : ℤ
-  concreteAt = cond (leb u (10 * x .h)) (floor (concreteMoment x (at u))) (floor (beyond.concreteMoment x u))
+-- by the page that the depth belongs to
+abbrev concreteAt : Design → ℕ → ℤ
+concreteAt x u = cond (leb u (10 * x .h)) (floor (concreteMoment x (at u))) (floor (beyond.concreteMoment x u))
 
+module _ {x : Design} {u : ℕ} (b : Bounded x) (d : DepthRange x u) where
   -- up to 10h the block ends within h
   short : u ≤ 10 * x .h → x .m .l * u ≤ 800 * x .h
   short h = omega (arith, mul-le-mul (b .materials .L-high) h)
 
-  pub concrete-at : pos (blockMoment (x .m .f) (x .b) (x .h) (block x u)) ≡ concreteAt
+  pub concrete-at : pos (blockMoment (x .m .f) (x .b) (x .h) (block x u)) ≡ concreteAt x u
   concrete-at =
       by-cond (λ (z : ℤ). pos (blockMoment (x .m .f) (x .b) (x .h) (block x u)) ≡ z) (leb u (10 * x .h))
       (λ t.
@@ -64,7 +66,7 @@ module _ {x : Design} {u : ℕ} (b : Bounded x) (d : DepthRange x u) where
       rw (min-eq-left h) (sym (concrete-floor x u (d .low) h)))
       (λ f. sym (concrete-moment-whole x u))
 
-  concrete-in : Within concreteAt 60000000000
+  concrete-in : Within (concreteAt x u) 60000000000
   concrete-in = rw (← concrete-at) (record { within = block-sizes (block-bounds u b) .quotient })
 
   -- ---- a layer
@@ -72,30 +74,29 @@ module _ {x : Design} {u : ℕ} (b : Bounded x) (d : DepthRange x u) where
   pub layer-at-in : {l : Layer} → LayerOk (x .h) l → Within (layerMomentAt x l u) layer-bound
   layer-at-in ok =
       by-cond (λ (z : ℤ). Within z layer-bound) (leb u (10 * x .h))
-      (λ t. layer-moment-in b (within d (leb-true _ _ t)) ok)
-      (λ f. up-to (beyond-sizes.layer-moment-in b (beyond-it d (leb-false _ _ f)) ok) (lit≤ tt))
+      (λ t. layer-moment-in b (depth-within d (leb-true _ _ t)) ok)
+      (λ f. up-to (beyond-sizes.layer-moment-in b (depth-beyond d (leb-false _ _ f)) ok) (lit≤ tt))
 
 -- ---- the sum over the layers
 
 -- a choice of two sums is the sum of two choices
-either-sum : (t : Bool) (a b c d : ℤ) → cond t (a +ℤ b) (c +ℤ d) ≡ cond t a c +ℤ cond t b d
-either-sum true a b c d = refl
-either-sum false a b c d = refl
+either-sum : (t : Bool) {p q : ℤ} (a b c d : ℤ) → p ≡ a +ℤ b → q ≡ c +ℤ d → cond t p q ≡ cond t a c +ℤ cond t b d
+either-sum true a b c d e f = e
+either-sum false a b c d e f = f
 
 module _ (x : Design) (u : ℕ) where
   pub steel-none : steelAt x [] u ≡ pos 0
-  unfolding steelResistance beyond.steelResistance
-  steel-none = by-cond (λ (z : ℤ). z ≡ pos 0) (leb u (10 * x .h)) (λ t. refl) (λ f. refl)
+  unfolding steelResistance
+  steel-none = by-cond (λ (z : ℤ). z ≡ pos 0) (leb u (10 * x .h)) (λ t. refl) (λ f. beyond-parts.steel-none x u)
 
   pub steel-next : (l : Layer) (ls : List Layer) → steelAt x (l ∷ ls) u ≡ layerMomentAt x l u +ℤ steelAt x ls u
-  unfolding steelResistance beyond.steelResistance
-  steel-next l ls = either-sum (leb u (10 * x .h)) _ _ _ _
+  unfolding steelResistance
+  steel-next l ls = either-sum (leb u (10 * x .h)) _ _ _ _ refl (beyond-parts.steel-next x u l ls)
 
   -- and the concrete with them
-  pub resistance-parts : (ls : List Layer)
-      → resistanceAt x ls u ≡ cond (leb u (10 * x .h)) (floor (concreteMoment x (at u))) (floor (beyond.concreteMoment x u)) +ℤ steelAt x ls u
-  unfolding resistanceAt momentResistance beyond.momentResistance
-  resistance-parts ls = either-sum (leb u (10 * x .h)) _ _ _ _
+  pub resistance-parts : (ls : List Layer) → resistanceAt x ls u ≡ concreteAt x u +ℤ steelAt x ls u
+  unfolding resistanceAt momentResistance
+  resistance-parts ls = either-sum (leb u (10 * x .h)) _ _ _ _ refl (beyond-parts.resistance-is x u ls)
 
 module _ {x : Design} {u : ℕ} (b : Bounded x) (d : DepthRange x u) where
   steel-in : (ls : List Layer) → all (depthOk (x .h)) ls ≡ true → all areaOk ls ≡ true → Within (steelAt x ls u) (layer-bound * length ls)
@@ -106,7 +107,7 @@ module _ {x : Design} {u : ℕ} (b : Bounded x) (d : DepthRange x u) where
       rw (steel-next x u l ls)
       (up-to (add-in (layer-at-in b d (layer-ok (x .h) l (depths .0) (areas .0))) (steel-in ls (depths .1) (areas .1))) (omega arith))
 
--- "the moment's bound"
+-- so the moment resistance fits
 pub resistance-in : {x : Design} {count : ℕ} {ls : List Layer} {u : ℕ} → Usable x count ls → DepthRange x u
     → Within (resistanceAt x ls u) 7000000000000000000
 resistance-in {x} {ls = ls} {u} w d =

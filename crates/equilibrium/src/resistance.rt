@@ -97,6 +97,6 @@ pub fn moment_resistance(
     requires { ⌜ Usable x count (layersIn count (now depths) (now areas)) × DepthRange x u ⌝ }
     ensures { λ r. ⌜ r ≡ resistanceAt x (layersIn count (now (depths .entry)) (now (areas .entry))) u ⌝ }
 {
-    let k = arith::lesser(x.m.l * u, 800 * x.h);
+    let k = beyond::force::block_at(x, u);
     concrete_moment(x.m.f, x.b, x.h, k) + steel_resistance(x, count, depths, areas, u)
 }

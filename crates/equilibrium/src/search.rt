@@ -1,5 +1,5 @@
-// The depth of the neutral axis, by pairs of trials: document 01, "Equilibrium". A trial compares the internal force with N exactly and
-// without a division.
+// The depth of the neutral axis, up to 10h by pairs of trials: document 01, "Equilibrium". A trial compares the internal force with N exactly and
+// without a division. Beyond 10h it is that of the crate `beyond`: document 02, ticket 11.
 use super::Depth;
 use super::balance::concrete_of;
 use super::balance::rest_of;
@@ -156,7 +156,8 @@ pub fn carries_at_one(x: Design, steel: u64, n: i64) -> bool
     concrete_of(x) as i64 <= rest_of(x, steel, n)
 }
 
-// The depth of a face whose depth 1 carries, or 0 where none up to 30h reaches N. Beyond 10h is looked only where the search ends at 10h.
+// The depth of a face whose depth 1 carries, or 0 where none up to 30h reaches N. Beyond 10h is looked only where the search ends at 10h and N
+// is above the internal force there.
 pub fn depth_above_one(
     x: Design,
     count: usize,

@@ -51,7 +51,7 @@ concrete-force-requires c κs = (c .pre .usable .bounded, beyond-b (c .pre))
 
 loop-holds : tie.Need-loop-holds Inv-loop μ-loop
 loop-holds c =
-    let e = c .concrete-force .ensures in
+    let e = c .concrete-force .ensures .1 in
     let s = c .before in
     (omega arith, (ap (λ k. k + steelNewtons (s .args .x) (layers s) (s .args .a) (s .args .b)) (e .0), omega (arith, e .1)))
 

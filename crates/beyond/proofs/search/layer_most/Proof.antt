@@ -18,13 +18,13 @@ test-is : (c : tie.After-rises-at) {t : Bool} → c .rises-at .result ≡ t → 
 test-is c e = sym (c .rises-at .ensures) ∙ e
 
 returns : tie.Need-returns
-returns c = rw (test-is (c .before .before) (c .before .if1 .taken)) (c .layer-force .ensures)
+returns c = rw (test-is (c .before .before) (c .before .if1 .taken)) (c .layer-force .ensures .1)
 
 layer-force-requires-2 : tie.Need-layer-force-requires-2
 layer-force-requires-2 c κs = search needs
 
 returns-2 : tie.Need-returns-2
-returns-2 c = rw (test-is (c .before .before) (c .before .if1 .left)) (c .layer-force2 .ensures)
+returns-2 c = rw (test-is (c .before .before) (c .before .if1 .left)) (c .layer-force2 .ensures .1)
 
 pub layer-most-spec : {M : Type 1} → statement M
 layer-most-spec =

@@ -45,7 +45,7 @@ module _ (s : tie.Start Inv-loop μ-loop) where
   read-trial : Trial (s .args .x) (s .args .count) ls (s .args .steel) load
   read-trial = rw (toZ-ofZ (s .fits .n)) (s .pre .0)
 
--- no depth is above 20,000
+-- no candidate is above 20,000: they lie up to 10h
 high : (c : tie.At-loop Inv-loop μ-loop) → c .loop .hi ≤ 20000
 high c = omega (arith, c .loop .inv .1 .most, c .before .before .before .pre .0 .usable .bounded .h-high)
 
