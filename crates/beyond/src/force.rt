@@ -11,9 +11,9 @@ ghost use Rattle.beyond.specs.Code.Range.{Beyond};
 ghost use Rattle.beyond.specs.Code.Whole.{block, concreteNewtons, under, rise, shareOf, layerNewtons};
 
 // A layer's force, not rounded: p/q newtons.
-pub struct Share {
-    pub p: u64,
-    pub q: u64,
+struct Share {
+    p: u64,
+    q: u64,
 }
 
 // The block's depth in 1/800 mm, at most that of the section: at every depth up to 30h, up to 10h too.

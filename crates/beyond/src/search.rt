@@ -23,7 +23,7 @@ fn rises_at(x: Design, depth: u32) -> bool
     (x.m.e - x.m.d) * x.h <= x.m.e * depth as u64
 }
 
-// A layer's greatest force on a..b. Two calls, not one at a chosen depth: what is the same for every layer then leaves the loop.
+// A layer's greatest force on a..b: at b where it never falls, else at a.
 fn layer_most(x: Design, depth: u32, area: u32, a: u64, b: u64) -> u64
     requires { ⌜ Bounded x × (Beyond x a × (Beyond x b × LayerOk (x .h) (record { depth = depth; area = area }))) ⌝ }
     ensures { λ r. ⌜ (r ≡ layerNewtons x (record { depth = depth; area = area }) (most x depth a b)) × (r ≤ 12000000) ⌝ }

@@ -83,13 +83,12 @@ module _ (x : Design) (ls : List Layer) (N : ℤ) (u : ℕ) where
 abbrev isIt : Depth → ℕ → Bool
 isIt d u = eqb (depth.refusalNumber d) (cond (eqb u 0) 12 0) && eqb (depth.depthFound d) u
 
-module _ {x : Design} {count : ℕ} {ls : List Layer} (N : ℤ) (w : Usable x count ls) (one : carries x ls N 1 ≡ true) where
-  of-kind : (u : ℕ) → isIt (kind N w one u) u ≡ true
-  of-kind zero = refl
-  of-kind (suc u) =
-      let some = ne-eqb (suc u) 0 (λ e. omega arith) in
-      let same = is-true (eqb (suc u) (suc u)) (eqb-refl (suc u)) in
-      by-cond (λ d. isIt d (suc u) ≡ true) (leb (suc u) (10 * x .h)) (λ t. rw (some, same)) (λ f. rw (some, same))
+of-kind : (x : Design) (u : ℕ) → isIt (kind x u) u ≡ true
+of-kind x zero = refl
+of-kind x (suc u) =
+    let some = ne-eqb (suc u) 0 (λ e. omega arith) in
+    let same = is-true (eqb (suc u) (suc u)) (eqb-refl (suc u)) in
+    by-cond (λ d. isIt d (suc u) ≡ true) (leb (suc u) (10 * x .h)) (λ t. rw (some, same)) (λ f. rw (some, same))
 
 module _ (s : Section) (N : ℤ) (u : ℕ) where
   unfoldable pub foundAt : Accepted → Bool
@@ -104,8 +103,8 @@ module _ (s : Section) (N : ℤ) (u : ℕ) where
       let loaded = both-true (forceOk N) (carries x ls N 1 && isDepth x ls N u) h in
       let face = both-true (carries x ls N 1) (isDepth x ls N u) (loaded .1) in
       let w = usable-by s e in
-      let is = find-in s N e (loaded .0) ∙ depth-kind N w (face .0) ∙ ap (kind N w (face .0)) (depth-is x ls N u (w .bounded) (face .1)) in
-      ap (λ d. isIt d u) is ∙ of-kind N w (face .0) u
+      let is = find-in s N e (loaded .0) ∙ depth-kind N w (face .0) ∙ ap (kind x) (depth-is x ls N u (w .bounded) (face .1)) in
+      ap (λ d. isIt d u) is ∙ of-kind x u
 
 -- ---- a row of Check that has depths, or 12
 

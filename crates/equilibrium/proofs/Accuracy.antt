@@ -8,7 +8,8 @@ use native.Mathlib.Omega.{arith}
 use lib.IntN.{ℤ}
 use Rattle.arith.specs.Fraction.{Proper, Ratio, whole, integer, ratio, _≤ᶠ_, _<ᶠ_}
 use Rattle.arith.specs.Greatest.{greatest}
-use Rattle.arith.proofs.Fraction.{Positive, proper, integer-proper, Tested, Tested.below, Tested.above, tested, passes, fails, holds-true, ≤ᶠ-trans, <ᶠ-≤ᶠ-trans, ≤ᶠ-<ᶠ-trans}
+use Rattle.arith.proofs.Fraction.{Positive, proper, integer-proper, ≤ᶠ-trans, <ᶠ-≤ᶠ-trans, ≤ᶠ-<ᶠ-trans}
+use Rattle.arith.proofs.Fraction.{Tested, Tested.below, Tested.above, tested, passes, fails, holds-true}
 use Rattle.arith.proofs.Greatest.{NeverBack, greatest-le, le-greatest, greatest-passes}
 use Rattle.section.specs.declared.Layer.{Layer}
 use Rattle.section.specs.declared.Design.{Design}

@@ -70,6 +70,23 @@ module _ (s : Section) (u : ℕ) where
 
 -- ---- the depth of a face
 
+-- the answer that a depth stands for: none, one up to 10h, or one beyond
+module _ (x : Design) where
+  abbrev pub kind : ℕ → Depth
+  kind zero = Refused 12
+  kind (suc u) = cond (leb (suc u) (10 * x .h)) (At (suc u)) (Beyond (suc u))
+
+  pub kind-none : {u : ℕ} → u ≡ 0 → Refused 12 ≡ kind u
+  kind-none e = rw e
+
+  pub kind-up-to : (u : ℕ) → 1 ≤ u → u ≤ 10 * x .h → At u ≡ kind u
+  kind-up-to zero low high = absurd (omega arith)
+  kind-up-to (suc u) low high = rw (le-leb (suc u) (10 * x .h) high)
+
+  pub kind-beyond : (u : ℕ) → 1 ≤ u → 10 * x .h < u → Beyond u ≡ kind u
+  kind-beyond zero low high = absurd (omega arith)
+  kind-beyond (suc u) low high = rw (lt-leb (suc u) (10 * x .h) high)
+
 -- by the test whether N is at most the force at 10h: which depth it is, and what is promised of it
 module _ {x : Design} {count : ℕ} {ls : List Layer} (N : ℤ) (w : Usable x count ls) (one : carries x ls N 1 ≡ true) where
   abbrev least : ℕ
@@ -112,35 +129,18 @@ module _ {x : Design} {count : ℕ} {ls : List Layer} (N : ℤ) (w : Usable x co
   pub depth-reached : reaches x ls N ≡ leb 1 (faceDepth ls N x)
   depth-reached = reached-by (upTo10h x ls N)
 
-  -- ---- the answer that a depth stands for: none, one up to 10h, or one beyond
-
-  abbrev pub kind : ℕ → Depth
-  kind zero = Refused 12
-  kind (suc u) = cond (leb (suc u) (10 * x .h)) (At (suc u)) (Beyond (suc u))
-
-  pub kind-none : {u : ℕ} → u ≡ 0 → Refused 12 ≡ kind u
-  kind-none e = rw e
-
-  pub kind-up-to : (u : ℕ) → 1 ≤ u → u ≤ 10 * x .h → At u ≡ kind u
-  kind-up-to zero low high = absurd (omega arith)
-  kind-up-to (suc u) low high = rw (le-leb (suc u) (10 * x .h) high)
-
-  pub kind-beyond : (u : ℕ) → 1 ≤ u → 10 * x .h < u → Beyond u ≡ kind u
-  kind-beyond zero low high = absurd (omega arith)
-  kind-beyond (suc u) low high = rw (lt-leb (suc u) (10 * x .h) high)
-
   -- by the two tests that make 12
   answered : (t r : Bool) → upTo10h x ls N ≡ t → leb 1 least ≡ r
-      → depthAnswer ls N (orElse (test 12 (t || r)) 0) (section.Ready x) ≡ kind (cond t (depthUnder ls N x) least)
-  answered true r e f = rw e (kind-up-to (depthUnder ls N x) (depth-low x ls N (w .bounded) one) (depth-high x ls N (w .bounded) one))
-  answered false true e f = let some = leb-true 1 least f in rw e (kind-beyond least some (reached-in x ls N some .low))
-  answered false false e f = kind-none {u = least} (omega (arith, leb-false 1 least f))
+      → depthAnswer ls N (orElse (test 12 (t || r)) 0) (section.Ready x) ≡ kind x (cond t (depthUnder ls N x) least)
+  answered true r e f = rw e (kind-up-to x (depthUnder ls N x) (depth-low x ls N (w .bounded) one) (depth-high x ls N (w .bounded) one))
+  answered false true e f = let some = leb-true 1 least f in rw e (kind-beyond x least some (reached-in x ls N some .low))
+  answered false false e f = kind-none x {u = least} (omega (arith, leb-false 1 least f))
 
-  pub depth-kind : depthFor x ls N ≡ kind (faceDepth ls N x)
+  pub depth-kind : depthFor x ls N ≡ kind x (faceDepth ls N x)
   unfolding depthFor
   depth-kind = rw one (answered (upTo10h x ls N) (leb 1 least) refl refl)
 
-  kind-promised : (u : ℕ) → promised u → PromisedDepth x ls N (kind u)
+  kind-promised : (u : ℕ) → promised u → PromisedDepth x ls N (kind x u)
   kind-promised zero p = record { member = tt }
   kind-promised (suc u) p =
       by-cond (PromisedDepth x ls N) (leb (suc u) (10 * x .h)) (λ t. (leb-true _ _ t, p (omega arith))) (λ f. (leb-false _ _ f, p (omega arith)))

@@ -32,7 +32,8 @@ depthFound (Refused k) = 0
 abbrev pub depthUnder : List Layer → ℤ → Design → ℕ
 depthUnder ls N x = greatest (carries x ls N) (10 * x .h)
 
--- the depth of a face under N: up to 10h; or, for N above the internal force at 10h, the least beyond it that reaches N (ticket 11)
+-- the depth of a face under N: up to 10h; or, for N above the internal force at 10h, the least beyond it that reaches N (ticket 11), 0 where
+-- none up to 30h does
 abbrev pub faceDepth : List Layer → ℤ → Design → ℕ
 faceDepth ls N x = cond (upTo10h x ls N) (depthUnder ls N x) (leastReaching x ls N)
 

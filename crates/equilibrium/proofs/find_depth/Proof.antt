@@ -87,7 +87,8 @@ returns-2 c =
     let x = loaded .before .before .before in
     let s = start (asked x) in
     let found = c .depth-for .ensures .0 ∙ (λ i. depthFor (x .x .given .0 .0) (section x .layers-are i) (toZ-ofZ (s .fits .n) i)) in
-    find-clauses (s .args .s) (s .args .n) (found ∙ sym (find-in (s .args .s) (s .args .n) (section x .ready) (sym (load-is (loaded .before)) ∙ loaded .if1 .taken)))
+    find-clauses (s .args .s) (s .args .n)
+    (found ∙ sym (find-in (s .args .s) (s .args .n) (section x .ready) (sym (load-is (loaded .before)) ∙ loaded .if1 .taken)))
 
 returns-3 : tie.Need-returns-3
 returns-3 c =

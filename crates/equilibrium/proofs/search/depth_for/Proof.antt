@@ -55,14 +55,14 @@ module _ (c : tie.After-depth-above-one) where
   depth-is = c .depth-above-one .ensures .0 ∙ ap (λ (z : ℤ). faceDepth (ls s) z (s .args .x)) (toZ-ofZ (s .fits .n))
 
   -- an answer of its kind
-  ended : {r : Depth} → r ≡ kind (s .args .n) (s .pre .usable) one (c .depth-above-one .result)
+  ended : {r : Depth} → r ≡ kind (s .args .x) (c .depth-above-one .result)
       → (r ≡ depthFor (s .args .x) (ls s) (s .args .n)) × PromisedDepth (s .args .x) (ls s) (s .args .n) r
   ended e =
       depth-clauses (s .args .n) (s .pre .usable)
-      (e ∙ ap (kind (s .args .n) (s .pre .usable) one) depth-is ∙ sym (depth-kind (s .args .n) (s .pre .usable) one))
+      (e ∙ ap (kind (s .args .x)) depth-is ∙ sym (depth-kind (s .args .n) (s .pre .usable) one))
 
 returns-2 : tie.Need-returns-2
-returns-2 c = let a = c .before in ended a (kind-none (s a .args .n) (s a .pre .usable) (one a) (c .if2 .taken))
+returns-2 c = let a = c .before in ended a (kind-none (s a .args .x) (c .if2 .taken))
 
 mul-if3 : tie.Need-mul-if3
 mul-if3 c = search needs
@@ -70,12 +70,12 @@ mul-if3 c = search needs
 returns-3 : tie.Need-returns-3
 returns-3 c =
     let a = c .before .before .before in
-    ended a (kind-up-to (s a .args .n) (s a .pre .usable) (one a) _ (omega (arith, c .before .before .if2 .left)) (c .if3 .taken))
+    ended a (kind-up-to (s a .args .x) _ (omega (arith, c .before .before .if2 .left)) (c .if3 .taken))
 
 returns-4 : tie.Need-returns-4
 returns-4 c =
     let a = c .before .before .before in
-    ended a (kind-beyond (s a .args .n) (s a .pre .usable) (one a) _ (omega (arith, c .before .before .if2 .left)) (c .if3 .left))
+    ended a (kind-beyond (s a .args .x) _ (omega (arith, c .before .before .if2 .left)) (c .if3 .left))
 
 pub depth-for-spec : {M : Type 1} → statement M
 depth-for-spec =
