@@ -61,6 +61,8 @@ static bool equal(salwoerk_report a, salwoerk_report b)
         && !memcmp(a.verdicts, b.verdicts, sizeof a.verdicts);
 }
 
+static bool same_depth(salwoerk_depth a, salwoerk_depth b) { return a.refusal == b.refusal && a.depth == b.depth && a.trials == b.trials; }
+
 static void print_check(const char *who, salwoerk_report a)
 {
     printf("%s %llu %llu %lld %llu %lld %llu %llu %llu %llu %llu ", who, (unsigned long long)a.refusal, (unsigned long long)a.u, (long long)a.mrd,
@@ -68,6 +70,11 @@ static void print_check(const char *who, salwoerk_report a)
         (unsigned long long)a.cotangent, (unsigned long long)a.link_resistance);
     for (int i = 0; i < SALWOERK_VERDICTS; i++) printf(" %llu", (unsigned long long)a.verdicts[i]);
     printf("\n");
+}
+
+static void print_depth(const char *who, salwoerk_depth a)
+{
+    printf("%s refusal %llu depth %llu trials %llu\n", who, (unsigned long long)a.refusal, (unsigned long long)a.depth, (unsigned long long)a.trials);
 }
 
 static void print_section(const salwoerk_section *s, salwoerk_load l)
@@ -79,9 +86,9 @@ static void print_section(const salwoerk_section *s, salwoerk_load l)
     printf("\n");
 }
 
-/* bit k: refusal k was met, bit 0: an answer; the verdicts, three bits each; bit c: cotangent c was answered; bit k: situation k was; and bit a:
- * alpha_cc 80 + a was */
-static uint64_t met, verdicts, cotangents, answered, reduced;
+/* bit k: refusal k was met, bit 0: an answer; the verdicts, three bits each; bit c: cotangent c was answered; bit k: situation k was; bit a: alpha_cc
+ * 80 + a was; and bit t: Find a depth answered t trials */
+static uint64_t met, verdicts, cotangents, answered, reduced, trials;
 
 /* How many answers have a depth beyond 10h at neither face, at that shown, at the other, at both; and how many are 12. */
 static long beyond[4], above;
@@ -110,19 +117,20 @@ static salwoerk_report compare(const salwoerk_section *s, salwoerk_load l)
     bool scanned = p.refusal == SALWOERK_ABOVE_RANGE || faces_beyond(s, p); /* which takes long, and is the same loop in all ways of plain C */
     salwoerk_report v = scanned ? p : plain_check_by_value(*s, l), r = scanned ? p : same_check(s, &l);
     salwoerk_depth vd = scanned ? pd : plain_find_depth_by_value(*s, l.n);
-    bool depths = ed.refusal == pd.refusal && ed.depth == pd.depth && ed.refusal == vd.refusal && ed.depth == vd.depth;
-    if (!equal(e, p) || !equal(e, v) || !equal(e, r) || !depths) {
+    if (!equal(e, p) || !equal(e, v) || !equal(e, r) || !same_depth(ed, pd) || !same_depth(ed, vd)) {
         printf("DIFFERENT ANSWERS\n");
         print_section(s, l);
         print_check("engine", e);
         print_check("plain ", p);
         print_check("value ", v);
         print_check("same  ", r);
-        printf("depth: engine %llu %llu plain %llu %llu\n", (unsigned long long)ed.refusal, (unsigned long long)ed.depth,
-            (unsigned long long)pd.refusal, (unsigned long long)pd.depth);
+        print_depth("Find a depth: engine", ed);
+        print_depth("Find a depth: plain ", pd);
+        print_depth("Find a depth: value ", vd);
         exit(1);
     }
     count_answer(s, e);
+    trials |= 1ull << ed.trials;
     return e;
 }
 
@@ -299,6 +307,8 @@ static void print_met(void)
     for (int k = 1; k < 3; k++) if (answered >> k & 1) printf(" %d", k);
     printf("; alpha_cc");
     for (int a = 0; a < 21; a++) if (reduced >> a & 1) printf(" %d", 80 + a);
+    printf("; trials of Find a depth");
+    for (int t = 0; t <= SALWOERK_MOST_TRIALS; t++) if (trials >> t & 1) printf(" %d", t);
     printf("\nbeyond 10h: %ld answers of the face shown alone, %ld of the other alone, %ld of both; %ld refused by 12\n", beyond[1], beyond[2],
         beyond[3], above);
 }

@@ -100,6 +100,18 @@ static inline int64_t depth_within(const salwoerk_layer *layers, size_t count, i
     return lo;
 }
 
+/* The same with its trials, for Find a depth alone: this halving is the rule that ticket 12 counts them by, and Check has no use for the number. */
+static inline salwoerk_depth counted_within(const salwoerk_layer *layers, size_t count, int64_t flb, int64_t h, const struct materials *m, int64_t n)
+{
+    int64_t lo = 1, hi = 10 * h;
+    uint64_t trials = 0;
+    for (; lo < hi; trials++) {
+        int64_t mid = (lo + hi + 1) / 2;
+        if (force(layers, count, flb, m, mid) <= n * 80000 * mid) lo = mid; else hi = mid - 1;
+    }
+    return (salwoerk_depth){ 0, (uint64_t)lo, trials };
+}
+
 /* ---- beyond 10h: 6.1 turns the strain line about the point at (1 - D/E)h from the compressed face (ticket 11) */
 
 /* How deep the block is, in 800ths of a millimetre: at most h. */
@@ -153,11 +165,12 @@ __attribute__((unused)) static inline salwoerk_depth find_depth(const salwoerk_s
     struct materials m;
     int k = accept(s, &m);
     if (!k && outside(n, 500000000)) k = 8;
-    if (k) return (salwoerk_depth){ (uint64_t)k, 0 };
+    if (k) return (salwoerk_depth){ (uint64_t)k, 0, 0 };
     int64_t flb = m.f * m.l * s->width;
-    if (below_range(s->layers, s->count, flb, &m, n)) return (salwoerk_depth){ 11, 0 };
-    int64_t u = depth_for(s->layers, s, flb, &m, n);
-    return (salwoerk_depth){ u ? 0 : 12, (uint64_t)u };
+    if (below_range(s->layers, s->count, flb, &m, n)) return (salwoerk_depth){ 11, 0, 0 };
+    if (!above_section(s->layers, s->count, flb, s->height, &m, n)) return counted_within(s->layers, s->count, flb, s->height, &m, n);
+    int64_t u = depth_beyond(s->layers, s->count, s->width, s->height, &m, n);
+    return (salwoerk_depth){ u ? 0 : 12, (uint64_t)u, 0 };
 }
 
 /* a / b rounded down, b above 0. */

@@ -56,6 +56,9 @@ static int show(salwoerk_section s, salwoerk_load load)
     printf("the other face: u %.1f mm%s, MRd %lld N mm\n", (double)r.other_u / 10, kind(s.height, r.other_u), (long long)r.other_mrd);
     if (r.cotangent) /* 0 where there are no links */
         printf("with links: VRd %d N, cotangent %.1f\n", (int)r.link_resistance, (double)r.cotangent / 10);
+    salwoerk_depth top = salwoerk_find_depth(s, load.n); /* from the top, whichever face M compresses */
+    if (top.trials) /* 0 beyond 10h */
+        printf("depth from the top: %d trials of the halving rule, never more than %d\n", (int)top.trials, SALWOERK_MOST_TRIALS);
     for (size_t i = 0; i < SALWOERK_VERDICTS; i++)
         printf("%s, %s: %s\n", salwoerk_verdict_clause(i), salwoerk_verdict_question(i), salwoerk_verdict_text(r.verdicts[i]));
     return 0;

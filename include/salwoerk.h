@@ -15,6 +15,8 @@
 #include <stdint.h>
 
 /* Of this header: MAJOR changes where a caller must be compiled again, MINOR where something is added, PATCH else.
+ * 6.0.0: the answer of salwoerk_find_depth holds after the depth the number of trials of the halving rule (request 12); so whoever calls it must be
+ * compiled again. No other struct, no call and no answer changed.
  * 5.1.0: a depth may be beyond 10h, up to 30h: that of a section compressed over its full height (clause 6.1, request 11), under an N that was refused by
  * 12 before. 12 is now given where no depth up to 30h reaches N, and 13 begins above 30h. No struct and no call changed; but whoever takes every depth
  * to lie in the section, to draw the neutral axis, say, now asks first: salwoerk_is_beyond, which is new.
@@ -30,8 +32,8 @@
  * (SALWOERK_SECTION_INIT does). Bit 7 of a record is no longer refused: it is the links. A line of salwoerk_list has a sixth verdict.
  * 2.0.0: verdict one and refusal 12 of salwoerk_check look at both faces, and its answer holds other_u and other_mrd before vrd; so whoever calls
  * it must be compiled again. */
-#define SALWOERK_VERSION_MAJOR 5
-#define SALWOERK_VERSION_MINOR 1
+#define SALWOERK_VERSION_MAJOR 6
+#define SALWOERK_VERSION_MINOR 0
 #define SALWOERK_VERSION_PATCH 0
 #define SALWOERK_VERSION (SALWOERK_VERSION_MAJOR * 10000 + SALWOERK_VERSION_MINOR * 100 + SALWOERK_VERSION_PATCH)
 
@@ -209,11 +211,18 @@ static inline int salwoerk_is_beyond(int64_t height, uint64_t depth)
 /* ---- the calls */
 
 /* Find a depth: the neutral axis in tenths of a millimetre from the top, which is compressed; above 10h the section is compressed over its full
- * height. Links are not looked at. Refusals: section tests, 8, 11 12; 12 where no depth up to 30h reaches N. */
+ * height. Links are not looked at. Refusals: section tests, 8, 11 12; 12 where no depth up to 30h reaches N.
+ *
+ * `trials` is how many trials the halving rule takes to this depth: it keeps a least and a greatest candidate, first 1 and 10h, and tries their mean
+ * rounded up, keeping it and what lies above where the internal force there is at most N, else what lies below, until one remains. A figure to plan by:
+ * the library itself searches in another way, with fewer. It follows from depth and height alone, and is 8 or 9 at a height of 50 mm, 14 or 15 at one
+ * of 2,000 mm. */
 typedef struct {
     uint64_t refusal;
     uint64_t depth; /* 1 to 30h, of either kind; 0 where refused */
+    uint64_t trials; /* 8 to SALWOERK_MOST_TRIALS for a depth up to 10h; 0 where refused, and for a depth beyond 10h */
 } salwoerk_depth;
+#define SALWOERK_MOST_TRIALS 15
 salwoerk_depth salwoerk_find_depth(salwoerk_section section, int64_t n);
 
 /* Moment at a depth of either kind, 1 to 30h: the moment resistance in N mm with the top compressed; it may be negative. Links are not looked at.

@@ -32,9 +32,10 @@ TAKES(salwoerk_load, 24);
 LIES(salwoerk_load, n, 0, 8);
 LIES(salwoerk_load, m, 8, 8);
 LIES(salwoerk_load, v, 16, 8);
-TAKES(salwoerk_depth, 16);
+TAKES(salwoerk_depth, 24);
 LIES(salwoerk_depth, refusal, 0, 8);
 LIES(salwoerk_depth, depth, 8, 8);
+LIES(salwoerk_depth, trials, 16, 8);
 TAKES(salwoerk_moment, 16);
 LIES(salwoerk_moment, refusal, 0, 8);
 LIES(salwoerk_moment, moment, 8, 8);
@@ -59,7 +60,8 @@ TAKES(salwoerk_written, 16);
 LIES(salwoerk_written, refusal, 0, 8);
 LIES(salwoerk_written, length, 8, 8);
 
-_Static_assert(SALWOERK_VERSION == 50100, "5.1.0");
+_Static_assert(SALWOERK_VERSION == 60000, "6.0.0");
+_Static_assert(SALWOERK_MOST_TRIALS == 15, "20,000 candidates, halved and rounded up, are one after 15 trials");
 _Static_assert(SALWOERK_RECORD_ROOM == 212, "a map, seven numbers, the links, sixteen layers, the situation and alpha_cc");
 _Static_assert(SALWOERK_RECOMMENDED_ALPHA_CC == 100, "the recommended value of 3.1.6(1) is 1.0");
 
@@ -248,7 +250,7 @@ static void answers(void)
 {
     salwoerk_load load = { 0, 200000000, 80000 }, over = { 0, 257986052, 86851 };
     salwoerk_depth depth = salwoerk_find_depth(section_a(), 0);
-    require("Find a depth", depth.refusal == 0 && depth.depth == 1358);
+    require("Find a depth", depth.refusal == 0 && depth.depth == 1358 && depth.trials == 12);
     salwoerk_moment moment = salwoerk_moment_at(section_a(), 1358);
     require("Moment at a depth", moment.refusal == 0 && moment.moment == 257986051);
     moment = salwoerk_moment_at(section_a(), 0);
@@ -317,6 +319,35 @@ static void depths_beyond(void)
         salwoerk_depth depth = salwoerk_find_depth(a, cases[i].n);
         require("Find a depth beyond 10h", depth.refusal == cases[i].refusal && depth.depth == cases[i].depth);
         require("the kind of depth", salwoerk_is_beyond(a.height, depth.depth) == cases[i].beyond);
+        require("trials up to 10h alone", depth.trials == (depth.depth == 5000 ? 13 : 0));
+    }
+}
+
+/* How many trials the halving rule takes (request 12): of A, of a section of 50 mm and of A made 2,000 mm high, at both ends of 1 to 10h and about
+ * the first mean. To 1 every trial is dropped and to 10h every one is kept: 10h, halved and rounded down, or up, is one after so many. */
+static void trials(void)
+{
+    static const struct { int64_t height, n; uint64_t refusal, depth, trials; } cases[] = {
+        { 500, -651691, SALWOERK_BELOW_RANGE, 0, 0 }, { 500, -651690, SALWOERK_ACCEPTED, 1, 12 }, { 500, 0, SALWOERK_ACCEPTED, 1358, 12 },
+        { 500, 2505000, SALWOERK_ACCEPTED, 5000, 13 }, { 500, 2505001, SALWOERK_ACCEPTED, 5001, 0 }, { 500, 3441001, SALWOERK_ABOVE_RANGE, 0, 0 },
+        { 50, -59333, SALWOERK_BELOW_RANGE, 0, 0 }, { 50, -59332, SALWOERK_ACCEPTED, 1, 8 }, { 50, 35963, SALWOERK_ACCEPTED, 250, 9 },
+        { 50, 35964, SALWOERK_ACCEPTED, 251, 8 }, { 50, 148977, SALWOERK_ACCEPTED, 500, 9 }, { 50, 148978, SALWOERK_ACCEPTED, 501, 0 },
+        { 2000, -651690, SALWOERK_ACCEPTED, 1, 14 }, { 2000, 4148309, SALWOERK_ACCEPTED, 10000, 15 }, { 2000, 4148310, SALWOERK_ACCEPTED, 10001, 14 },
+        { 2000, 9626250, SALWOERK_ACCEPTED, 20000, SALWOERK_MOST_TRIALS }, { 2000, 9626251, SALWOERK_ACCEPTED, 20001, 0 },
+    };
+    salwoerk_section low = section_a(), tall = section_a();
+    low.width = 75;
+    low.height = 50;
+    low.grade.fck = 90;
+    low.grade.fyk = 463;
+    low.count = 2;
+    low.layers[0] = (salwoerk_layer){ 7, 37 };
+    low.layers[1] = (salwoerk_layer){ 43, 111 };
+    tall.height = 2000;
+    tall.layers[0].depth = 1950;
+    for (size_t i = 0; i < sizeof cases / sizeof *cases; i++) {
+        salwoerk_depth d = salwoerk_find_depth(cases[i].height == 50 ? low : cases[i].height == 2000 ? tall : section_a(), cases[i].n);
+        require("the trials to a depth", d.refusal == cases[i].refusal && d.depth == cases[i].depth && d.trials == cases[i].trials);
     }
 }
 
@@ -491,7 +522,8 @@ static void require_refusal(salwoerk_section a, uint32_t bit, uint64_t refusal)
     salwoerk_load load = { 0, 1, 0 };
     int zero = refusal != 0;
     salwoerk_depth depth = salwoerk_find_depth(a, 0);
-    require("Find a depth: refusal, and depth 0 with it", depth.refusal == refusal && (depth.depth == 0) == zero);
+    require("Find a depth: refusal, and depth and trials 0 with it", depth.refusal == refusal && (depth.depth == 0) == zero
+        && (depth.trials == 0) == zero);
     salwoerk_moment moment = salwoerk_moment_at(a, 1250);
     require("Moment at a depth: refusal, and moment 0 with it", moment.refusal == refusal && (moment.moment == 0) == zero);
     salwoerk_report r = salwoerk_check(a, load);
@@ -703,6 +735,7 @@ int main(void)
     answers();
     both_faces();
     depths_beyond();
+    trials();
     moments_beyond();
     classes_beyond();
     check_beyond();

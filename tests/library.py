@@ -10,7 +10,7 @@ import ctypes
 from ctypes import POINTER, c_int64, c_size_t, c_uint8, c_uint32, c_uint64
 
 import second
-from met import CASES, case_of, halved_depth
+from met import CASES, case_of, halved_depth, trial_turns
 from samples import SIXTEEN, U32_MAX, Sample, UNDER_LOAD, all_samples, record, with_layer
 from second import LINK_TESTS, NO_LINKS, Layer, Links, Load, Section
 from tally import check_accuracy, check_accuracy_of_faces, check_stated
@@ -24,7 +24,7 @@ STRUCTS = {
     "Section": [("layers", "Layer", 16), ("width", c_int64), ("height", c_int64),
                 ("grade", "Grade"), ("links", "Links"), ("count", c_size_t)],
     "Load": [("n", c_int64), ("m", c_int64), ("v", c_int64)],
-    "Depth": [("refusal", c_uint64), ("u", c_uint64)],
+    "Depth": [("refusal", c_uint64), ("u", c_uint64), ("trials", c_uint64)],
     "Moment": [("refusal", c_uint64), ("moment", c_int64)],
     "Report": [("refusal", c_uint64), ("u", c_uint64), ("mrd", c_int64), ("other_u", c_uint64),
                ("other_mrd", c_int64), ("vrd", c_uint64), ("dm", c_uint64), ("area", c_uint64),
@@ -111,9 +111,9 @@ class Engine:
         return self.structs["Load"](n=load.n, m=load.m, v=load.v)
 
     def find_depth(self, section, n):
-        """Refusal and u."""
+        """Refusal, u and trials."""
         answer = self.calls["find_depth"](self.section(section), n)
-        return answer.refusal, answer.u
+        return second.Depth(answer.refusal, answer.u, answer.trials)
 
     def moment(self, section, u):
         """Refusal and moment resistance."""
@@ -217,8 +217,9 @@ def note_case(tally, call, section, refusal):
         tally.coverage.note_call(f"{call} has refusal {number}", refusal == number)
 
 
-def note_beyond(tally, section, n, refusal, u):
+def note_beyond(tally, section, n, answer):
     """Count what Find a depth meets beyond 10h (02, request 11)."""
+    refusal, u, _ = answer
     beyond = refusal == 0 and u > second.greatest_depth(section)
     for case in CASES:
         tally.coverage.note_call(f"Find a depth answers beyond 10h in {case}", beyond and case == case_of(section))
@@ -232,16 +233,23 @@ def note_beyond(tally, section, n, refusal, u):
                              refusal == 12 and second.reached_by_10h(second.upright(section), n - 1))
 
 
+def note_trials(tally, section, n, answer):
+    """Count what Find a depth meets of the halving rule (02, request 12)."""
+    for name, met in trial_turns(section, n, answer):
+        tally.coverage.note_call(f"Find a depth {name}", met)
+
+
 def compare_depth(tally, rng, engine, sample):
-    """Find a depth, what Moment at a depth answers for it, and demand 3 with that."""
+    """Find a depth with its trials, what Moment at a depth answers for it, and demand 3 with that."""
     section, load = sample.section, sample.load
     expected, answer = second.find_depth(section, load.n), engine.find_depth(section, load.n)
     tally.compare(f"Find a depth, {sample.label}", hexadecimal(section, load), expected, answer)
-    refusal, u = answer
+    refusal, u, _ = answer
     note_case(tally, "Find a depth", section, refusal)
     tally.coverage.note_call("Find a depth answers where Check refuses the links",
                              refusal == 0 and links_refused(section, load) != 0)
-    note_beyond(tally, section, load.n, *expected)
+    note_beyond(tally, section, load.n, expected)
+    note_trials(tally, section, load.n, expected)
     if refusal == 0:
         moment = engine.moment(section, u)
         tally.compare(f"Moment at the depth found, {sample.label}", hexadecimal(section, load),

@@ -4,7 +4,8 @@ A comparison that never met a refusal or a verdict has shown nothing about it,
 so each one that the papers make reachable has to be met at least once, verdicts
 and turns in each situation of request 8 of 02, both with αcc 100 and below it
 (request 10), and every αcc with every class in both situations, with depths up
-to 10h and beyond (request 11).
+to 10h and beyond (request 11). Every number of trials that Find a depth can
+answer has to be met too (request 12).
 """
 
 from collections import Counter
@@ -13,7 +14,7 @@ from math import ceil
 from typing import NamedTuple
 
 import second
-from samples import faces_of, last_spacing, last_up_to_10h, least_link_area
+from samples import HALVED_HEIGHTS, faces_of, halved_depths, last_spacing, last_up_to_10h, least_link_area
 
 LIST_REFUSALS = tuple(dict.fromkeys(
     second.SEQUENCES["Read a record"] + second.SEQUENCES["Check"] + second.SEQUENCES["List program"]))
@@ -171,6 +172,39 @@ def beyond_turns(section, load, report):
             yield f"{name}: fck {fck}", bool(face and section.fck == fck)
         if face:
             yield from ((f"{name}: {turn}", met) for turn, met in (*depth_turns(face), *part_turns(face)))
+
+
+# --- trials of the halving rule: request 12 of 02 ------------------------------
+
+
+TRIALS = range(8, second.MOST_TRIALS + 1)  # the 500 candidates of h 50, halved and rounded down, are one after 8 trials
+
+
+def numbers_of_trials(height):
+    """Where each trial is dropped and where each is kept: the halves of 10h rounded down, and rounded up, to one."""
+    most = (10 * height).bit_length()  # 10h is no power of two
+    return most - 1, most
+
+
+def trial_turns(section, n, answer):
+    """What Find a depth answers of trials, and the depths that tell: (what it does, whether it did here)."""
+    refusal, u, trials = answer
+    within = refusal == 0 and u <= second.greatest_depth(section)
+    for number in TRIALS:
+        yield f"takes {number} trials", within and trials == number
+    yield "takes 0 trials: a depth beyond 10h", refusal == trials == 0 and not within
+    for number in second.SEQUENCES["Find a depth"]:
+        yield f"takes 0 trials: refusal {number}", refusal == number and trials == 0
+    for height in HALVED_HEIGHTS:
+        for number in numbers_of_trials(height):
+            yield f"takes {number} trials of {10 * height:,} candidates", (
+                within and section.height == height and trials == number)
+    for name, depth in halved_depths(section.height).items():
+        there = within and u == depth
+        yield f"ends at {name}, N the force there", there and n == second.internal_force(section, u)
+        if name != "10h":  # there N is the force itself, or u is less
+            yield f"ends at {name}, N at most a newton below the next force", (
+                there and n + 1 >= second.internal_force(section, u + 1))
 
 
 def bending_turns(seen, load, report):

@@ -466,6 +466,38 @@ def column_grade_samples():
             yield Sample(f"fck {fck}, αcc {alpha_cc}, the last N + 1", section, Load(last + 1, m, 0), 12)
 
 
+# --- the halving rule: request 12 of 02 ---------------------------------------
+
+# The lowest and the highest, and those whose 10h, the candidates of the rule, are the last below a power of two and the
+# first above it: 512, 1,024, 2,048, 4,096, 8,192 and 16,384.
+HALVED_HEIGHTS = (50, 51, 52, 102, 103, 204, 205, 409, 410, 819, 820, 1_638, 1_639, 2_000)
+
+
+def halved_depths(height):
+    """Depths that the rule ends at, by their names: each trial dropped or each kept, and so after the first mean."""
+    first, last = 5 * height + 1, 10 * height  # the mean of 1 and 10h, rounded up
+    return {"1": 1, "2": 2, "the first mean - 1": first - 1, "the first mean": first, "the first mean + 1": first + 1,
+            "10h - 1": last - 1, "10h": last}
+
+
+def axial_forces_about(section, u):
+    """N a newton below the first of depth u, the first, a newton above it, and a newton below the first of u + 1."""
+    first, then = (ceil(second.force_at(section, depth)) for depth in (u, u + 1))
+    return tuple(dict.fromkeys((first - 1, first, first + 1, then - 1)))
+
+
+def halving_samples():
+    """N at the forces of these depths: whole ones, so that a trial has N itself, and fractions, which pass 10h over."""
+    for height in HALVED_HEIGHTS:
+        whole = second.section_of(300, height, 30, 500, [(1, 100)])
+        fraction = second.section_of(300, height, 35, 500, [(9 * height // 10, 777), (7, 35)])
+        for section in (whole, fraction):
+            least = least_force(section)
+            for u in halved_depths(height).values():
+                for n in axial_forces_about(section, u):
+                    yield Sample(f"h {height}, N {n} about depth {u}", section, Load(n, 0, 0), 0 if n >= least else 11)
+
+
 def all_samples():
     """Every fixed sample of this file."""
     for group in (field_samples, class_samples, count_samples, layer_samples, load_samples,
@@ -473,5 +505,5 @@ def all_samples():
                   bending_turn_samples, shear_turn_samples, steel_turn_samples,
                   size_factor_samples, grade_samples, field_presence_samples, link_range_samples,
                   presence_samples, cotangent_samples, tie_samples, link_turn_samples, exact_ratio_samples,
-                  column_depth_samples, column_grade_samples):
+                  column_depth_samples, column_grade_samples, halving_samples):
         yield from group()

@@ -109,11 +109,11 @@ def lopsided_section(rng):
 
 
 def turning_depth(rng, seen):
-    """A whole depth at a layer, at the limit of 5.6.3(2), at an end, or any."""
+    """A whole depth at a layer, at the limit of 5.6.3(2), at an end, at the first mean of the halving rule, or any."""
     depth = rng.choice(second.counted(seen)).depth
     last = second.greatest_depth(seen)
     limit = second.depth_limit(seen.fck)
-    u = rng.choice((10 * depth, limit * depth // 10, 4 * depth, 1, last,
+    u = rng.choice((10 * depth, limit * depth // 10, 4 * depth, 1, last, last // 2 + 1,
                     rng.randint(1, last), rng.randint(1, last)))
     return held(beside(rng, u), 1, last)
 

@@ -10,15 +10,17 @@ beyond 10h: it is here to be read beside the papers.
 Run by itself it answers every row of "Reference cases" and prints 'ok' or
 'DIFFERS' for each; the expected values there are the papers', and the project's
 own for the section that no M suits, for the links, for the accidental situation,
-for αcc below 1 and for most depths beyond 10h. The search there answers beside
-the plain look at every depth, for random sections whose seed is printed.
+for αcc below 1, for most depths beyond 10h and for the trials of the halving rule,
+which are worked out by hand where each of them is dropped or each is kept. Both
+searches answer beside the plain look at every depth, for random sections whose
+seed is printed.
 """
 
 import random
 import sys
 from fractions import Fraction
 from functools import lru_cache
-from math import floor  # exact on fractions, and "toward minus infinity"
+from math import ceil, floor  # exact on fractions, and floor is "toward minus infinity"
 from typing import NamedTuple, Optional
 
 # --------------------------------------------------------------------------
@@ -260,17 +262,39 @@ def is_depth_returned(section, n, u):
             and (u == last or internal_force(section, u + 1) > n))
 
 
+class Halving(NamedTuple):
+    """The depths that the halving rule of request 12 of 02 tried, in turn, and the candidate that remains."""
+
+    tried: tuple
+    remaining: int
+
+
+@lru_cache(maxsize=None)
+def halving(section, n):
+    """'The rule keeps a least and a greatest candidate, first 1 and 10h. It tries their
+    mean rounded up, keeping it and what lies above where the internal force there is at
+    most N, else what lies below, until one remains.' (02, request 12)"""
+    least, most, tried = 1, greatest_depth(section), []
+    while least < most:  # "until one remains"
+        mean = ceil(Fraction(least + most, 2))
+        tried.append(mean)
+        if internal_force(section, mean) <= n:
+            least = mean     # "keeping it and what lies above"
+        else:
+            most = mean - 1  # "else what lies below"
+    return Halving(tuple(tried), least)
+
+
 @lru_cache(maxsize=None)
 def depth_returned(section, n):
     """'the greatest u of the range at which the internal force is at most N'
 
     The concrete force grows with u, the elastic stress E·(1 − 10d/u) grows
     with u, and holding it between two limits keeps the order. So the force
-    rises strictly with u: halving finds the greatest u, and a look at the
-    neighbour shows that there is no greater one.
+    rises strictly with u: the halving rule finds the greatest u, and a look at
+    the neighbour shows that there is no greater one.
     """
-    u = greatest(lambda depth: internal_force(section, depth) <= n,
-                 1, greatest_depth(section) + 1)
+    u = halving(section, n).remaining
     assert is_depth_returned(section, n, u)
     return u
 
@@ -463,6 +487,16 @@ def reached_by_10h(section, n):
 def depth_under(section, n):
     """The depth under an N that is neither 11 nor 12, of whichever page."""
     return depth_returned(section, n) if reached_by_10h(section, n) else depth_beyond(section, n)
+
+
+MOST_TRIALS = 15  # "never exceeds 15" (02, request 12)
+
+
+def trials_under(section, n):
+    """'The number equals the trials of that rule'; 'depths beyond 10h report 0' (02, request 12)."""
+    trials = len(halving(section, n).tried) if reached_by_10h(section, n) else 0
+    assert trials <= MOST_TRIALS
+    return trials
 
 
 def force_at(section, u):
@@ -975,11 +1009,23 @@ def face_tests(section, load):
             (12, above_range(seen, load.n) or above_range(other, load.n)))
 
 
+class Depth(NamedTuple):
+    """The answer of Find a depth; a refusal 'returns zeros'."""
+
+    refusal: int
+    u: int
+    trials: int  # of the halving rule (02, request 12)
+
+
 def find_depth(section, n):
-    """Find a depth: the section tests, 8, 11, 12 of the top. Refusal and u."""
+    """Find a depth: the section tests, 8, 11, 12 of the top. 'Finding a depth answers also
+    the number of trials', and 'refused calls ... report 0' (02, request 12)."""
     refusal = (first_failing(section_tests(section) + axial_test(n))
                or first_failing(top_tests(section, n)))
-    return (refusal, 0) if refusal else (0, depth_under(upright(section), n))
+    if refusal:
+        return Depth(refusal, 0, 0)
+    top = upright(section)
+    return Depth(0, depth_under(top, n), trials_under(top, n))
 
 
 def moment_at_depth(section, u):
@@ -1107,6 +1153,8 @@ FALLING = section_of(50, 500, 12, 600, [(150, 20_000)], situation=ACCIDENTAL)  #
 MIXED = section_of(50, 500, 12, 600, [(150, 20_000), (450, 100)], situation=ACCIDENTAL)  # and a layer in tension
 SMALL = section_of(50, 50, 30, 500, [(10, 100), (40, 150)])
 LARGE = section_of(2_000, 2_000, 90, 600, [(50, 20_000), (1_950, 20_000)] * 8)
+LOW = section_of(75, 50, 90, 463, [(7, 37), (43, 111)])  # its force is whole at 10h, and neither at 1 nor at the first mean
+TALL = section_of(300, 2_000, 30, 500, [(1_950, 1_500)])  # A made higher: the same force where the layer of both yields
 SIXTEEN = section_of(  # layers near both faces and inside, some equal depths, sixteen in all
     400, 700, 40, 500, [(50 + 40 * (place // 2), 100 + 10 * place) for place in range(PLACES)])
 EXAMPLE = bytes.fromhex(
@@ -1151,7 +1199,7 @@ def equilibrium_rows():
     bottom = check(SECTION_A, Load(0, -1, 0))
     at_end = check(SECTION_A, Load(2_505_000, 0, 0))
     return [
-        ("A, N 0 from the top: u", find_depth(SECTION_A, 0), (0, 1_358)),
+        ("A, N 0 from the top: u", find_depth(SECTION_A, 0)[:2], (0, 1_358)),
         ("A, internal force at 1,358", internal_force(SECTION_A, 1_358), -330),
         ("A, internal force at 1,359", internal_force(SECTION_A, 1_359), 150),
         ("A, N 0: MRd", check(SECTION_A, NO_LOAD).mrd, 257_986_051),
@@ -1159,12 +1207,12 @@ def equilibrium_rows():
         ("A, M -1: u and MRd", (bottom.u, bottom.mrd), (419, 6_312_569)),
         ("A, M -1: the layer alone",
          rounded_down(layer_moment(turned, counted(turned)[0], 419)), -40_596_659),
-        ("A, N -651,690: u 1", find_depth(SECTION_A, -651_690), (0, 1)),
-        ("A, N -651,691: refusal 11", find_depth(SECTION_A, -651_691), (11, 0)),
-        ("A, N 2,505,000: u 5,000", find_depth(SECTION_A, 2_505_000), (0, 5_000)),
+        ("A, N -651,690: u 1", find_depth(SECTION_A, -651_690)[:2], (0, 1)),
+        ("A, N -651,691: refusal 11", find_depth(SECTION_A, -651_691)[:2], (11, 0)),
+        ("A, N 2,505,000: u 5,000", find_depth(SECTION_A, 2_505_000)[:2], (0, 5_000)),
         ("A, N 2,505,000: MRd", at_end.mrd, 99_000_000),
         ("A, N 2,505,000: verdicts two to four", at_end.verdicts[1:4], (2, 2, 2)),
-        ("A, N 2,505,001: u 5,001, no longer 12", find_depth(SECTION_A, 2_505_001), (0, 5_001)),
+        ("A, N 2,505,001: u 5,001, no longer 12", find_depth(SECTION_A, 2_505_001)[:2], (0, 5_001)),
     ]
 
 
@@ -1366,19 +1414,19 @@ def accidental_rows():
     a, turned = ACCIDENTAL_A, turned_over(ACCIDENTAL_A)
     bottom = check(a, Load(0, -1, 0))
     return [
-        ("accidental A, N 0: u", find_depth(a, 0), (0, 1_250)),
+        ("accidental A, N 0: u", find_depth(a, 0)[:2], (0, 1_250)),
         ("accidental A, internal force at 1,250 and 1,251", [internal_force(a, u) for u in (1_250, 1_251)], [0, 600]),
-        ("accidental A, N -1: u", find_depth(a, -1), (0, 1_249)),
+        ("accidental A, N -1: u", find_depth(a, -1)[:2], (0, 1_249)),
         ("accidental A, N 0: MRd", check(a, NO_LOAD).mrd, 300_000_000),
         ("accidental A: Moment at depth 1,250", moment_at_depth(a, 1_250), (0, 300_000_000)),
         ("accidental A, M -1: u and MRd", (bottom.u, bottom.mrd), (405, 7_554_140)),
         ("accidental A, M -1: the layer alone",
          rounded_down(layer_moment(turned, counted(turned)[0], 405)), -49_259_260),
-        ("accidental A, the least N", [find_depth(a, n) for n in (-749_400, -749_401)], [(0, 1), (11, 0)]),
+        ("accidental A, the least N", [find_depth(a, n)[:2] for n in (-749_400, -749_401)], [(0, 1), (11, 0)]),
         ("accidental A, the last N up to 10h",
-         [find_depth(a, n) for n in (3_105_000, 3_105_001)], [(0, 5_000), (0, 5_001)]),
+         [find_depth(a, n)[:2] for n in (3_105_000, 3_105_001)], [(0, 5_000), (0, 5_001)]),
         ("accidental A from the bottom: last N up to 10h",
-         [find_depth(turned, n) for n in (3_750_000, 3_750_001)], [(0, 5_000), (0, 5_001)]),
+         [find_depth(turned, n)[:2] for n in (3_750_000, 3_750_001)], [(0, 5_000), (0, 5_001)]),
         ("accidental A: Moment at depth 5,000", moment_at_depth(a, 5_000), (0, 129_000_000)),
     ]
 
@@ -1466,16 +1514,16 @@ def reduced_rows():
         return check(section, Load(0, m, 0))[1:5]
 
     return [
-        ("αcc 85, N 0: u", find_depth(a, 0), (0, 1_598)),
+        ("αcc 85, N 0: u", find_depth(a, 0)[:2], (0, 1_598)),
         ("αcc 85, internal force at 1,598 and 1,599", [internal_force(a, u) for u in (1_598, 1_599)], [-186, 222]),
         ("αcc 85: Moment at depth 1,598", moment_at_depth(a, 1_598), (0, 251_755_182)),
         ("αcc 85, N 0: both faces", faces(a), (1_598, 251_755_182, 428, 5_339_334)),
         ("αcc 85, M -1: both faces", faces(a, -1), (428, 5_339_334, 1_598, 251_755_182)),
-        ("αcc 85, the least N", [find_depth(a, n) for n in (-651_762, -651_763)], [(0, 1), (11, 0)]),
+        ("αcc 85, the least N", [find_depth(a, n)[:2] for n in (-651_762, -651_763)], [(0, 1), (11, 0)]),
         ("αcc 85, the last N up to 10h",
-         [find_depth(a, n) for n in (2_145_000, 2_145_001)], [(0, 5_000), (0, 5_001)]),
+         [find_depth(a, n)[:2] for n in (2_145_000, 2_145_001)], [(0, 5_000), (0, 5_001)]),
         ("αcc 85 from the bottom: last N up to 10h",
-         [find_depth(turned, n) for n in (2_692_170, 2_692_171)], [(0, 5_000), (0, 5_001)]),
+         [find_depth(turned, n)[:2] for n in (2_692_170, 2_692_171)], [(0, 5_000), (0, 5_001)]),
         ("αcc 80, N 0: both faces", faces(a._replace(alpha_cc=80)), (1_698, 249_155_986, 431, 4_903_221)),
         ("αcc 99, N 0: both faces", faces(a._replace(alpha_cc=99)), (1_372, 257_647_244, 420, 6_542_988)),
         ("accidental, αcc 85, N 0: both faces", faces(BOTH_A), (1_470, 293_342_640, 415, 6_387_061)),
@@ -1597,7 +1645,7 @@ def strain_line_rows():
 
 def depths_of(section, *ns):
     """What Find a depth answers for each N: u, or the refusal as a negative number."""
-    return [u if refusal == 0 else -refusal for refusal, u in (find_depth(section, n) for n in ns)]
+    return [u if refusal == 0 else -refusal for refusal, u, _ in (find_depth(section, n) for n in ns)]
 
 
 def beyond_rows():
@@ -1797,6 +1845,99 @@ def search_rows(rng):
     ]
 
 
+# The depths that the rule tries, worked out by hand from its words: at u = 1 every trial is dropped, at u = 10h every
+# one is kept. A under N 0 has u 1,358, and its last trial is the 1,359 whose force the paper has, 150. TALL under N 0
+# has that u too: its second trial leaves 1 to 5,000, with which A begins.
+TRIED_BY_A = (2_501, 1_251, 1_876, 1_563, 1_407, 1_329, 1_368, 1_348, 1_358, 1_363, 1_360, 1_359)
+TRIED_BY_HAND = (
+    ("A, N 0", SECTION_A, 0, TRIED_BY_A),
+    ("A at 1", SECTION_A, -651_690, (2_501, 1_251, 626, 313, 157, 79, 40, 20, 10, 5, 3, 2)),
+    ("A at 10h", SECTION_A, 2_505_000,
+     (2_501, 3_751, 4_376, 4_688, 4_844, 4_922, 4_961, 4_981, 4_991, 4_996, 4_998, 4_999, 5_000)),
+    ("h 50 at 1", LOW, -59_332, (251, 126, 63, 32, 16, 8, 4, 2)),
+    ("h 50 at 10h", LOW, 148_977, (251, 376, 438, 469, 485, 493, 497, 499, 500)),
+    ("h 2,000 at 1", TALL, -651_690, (10_001, 5_001, 2_501, 1_251, 626, 313, 157, 79, 40, 20, 10, 5, 3, 2)),
+    ("h 2,000 at 10h", TALL, 9_626_250, (10_001, 15_001, 17_501, 18_751, 19_376, 19_688, 19_844, 19_922, 19_961, 19_981,
+                                         19_991, 19_996, 19_998, 19_999, 20_000)),
+    ("h 2,000, N 0", TALL, 0, (10_001, 5_001, *TRIED_BY_A)),
+)
+
+
+def trial_rows():
+    """Request 12 of 02: trials of A, of the lowest and of the highest section, a newton to either side of both ends of
+    1 to 10h, of depth 2 and of the first mean, 251 or 10,001."""
+    answers = (
+        ("A", SECTION_A, {-651_691: (11, 0, 0), -651_690: (0, 1, 12), 0: (0, 1_358, 12), 2_505_000: (0, 5_000, 13),
+                          2_505_001: (0, 5_001, 0), 3_441_000: (0, 15_000, 0), 3_441_001: (12, 0, 0)}),
+        ("h 50", LOW, {-59_333: (11, 0, 0), -59_332: (0, 1, 8), -59_081: (0, 1, 8), -59_080: (0, 2, 9), 0: (0, 139, 9),
+                       35_963: (0, 250, 9), 35_964: (0, 251, 8), 148_976: (0, 499, 9), 148_977: (0, 500, 9),
+                       148_978: (0, 501, 0)}),
+        ("h 2,000", TALL, {-651_691: (11, 0, 0), -651_690: (0, 1, 14), -651_211: (0, 1, 14), -651_210: (0, 2, 14),
+                           0: (0, 1_358, 14), 4_148_309: (0, 10_000, 15), 4_148_310: (0, 10_001, 14),
+                           9_626_249: (0, 19_999, 15), 9_626_250: (0, 20_000, 15), 9_626_251: (0, 20_001, 0)}),
+        ("sixteen layers, whose N passes 10h over", SIXTEEN, {7_146_330: (0, 6_999, 13), 7_146_331: (0, 7_001, 0)}),
+    )
+    rows = [(f"{name}, N {n:,}: refusal, u and trials", find_depth(section, n), expected)
+            for name, section, of_n in answers for n, expected in of_n.items()]
+    return rows + [(f"{name}: the depths tried, by hand", halving(upright(section), n).tried, tried)
+                   for name, section, n, tried in TRIED_BY_HAND]
+
+
+def trial_refusal_rows():
+    """Request 12 of 02: 'refused calls ... report 0', whichever test of Find a depth fails."""
+    a, most = SECTION_A, 500_000_000
+    refused_calls = (
+        (1, a._replace(width=49), 0), (2, a._replace(height=2_001), 0), (3, a._replace(fck=31), 0),
+        (4, a._replace(fyk=601), 0), (32, a._replace(situation=3), 0), (34, a._replace(alpha_cc=101), 0),
+        (5, a._replace(count=0), 0), (6, a._replace(layers=(Layer(500, 1_500),)), 0),
+        (7, a._replace(layers=(Layer(450, 0),)), 0), (8, a, most + 1), (8, a, -most - 1), (11, a, -most), (12, a, most),
+    )
+    return [(f"refusal {number}: no depth, no trials", find_depth(section, n), (number, 0, 0))
+            for number, section, n in refused_calls] + [
+        ("no other test of Find a depth", {number for number, _, _ in refused_calls}, set(SEQUENCES["Find a depth"]))]
+
+
+def at_both_ends(height):
+    """Of a section so high, whose forces at 1 and at 10h are whole: the trials to depth 1 and to 10h."""
+    section = section_of(300, height, 30, 500, [(1, 100)])
+    found = [find_depth(section, int(internal_force(section, u))) for u in (1, 10 * height)]
+    assert [depth.u for depth in found] == [1, 10 * height]
+    return tuple(depth.trials for depth in found)
+
+
+def trial_count_rows():
+    """Request 12 of 02: 'never exceeds 15'. A trial leaves half of the candidates; where they are odd, it leaves the
+    greater part where it is kept. So depth 1 takes the k trials with 2^k < 10h < 2^(k+1), depth 10h one more, and no depth
+    fewer or more; and in all 2^(k+1) − 10h of the 10h depths take k."""
+    ends = {height: at_both_ends(height) for height in range(50, 2_001)}
+    most = {height: (10 * height).bit_length() for height in ends}
+    of_low = [find_depth(LOW, ceil(internal_force(LOW, u))) for u in range(1, 501)]
+    return [
+        ("every height: the trials to depth 1 and to 10h", ends, {height: (k - 1, k) for height, k in most.items()}),
+        ("of all heights: from 8 to 15", sorted({trials for both in ends.values() for trials in both}), list(range(8, 16))),
+        ("h 50: every depth is that of an N", [depth.u for depth in of_low], list(range(1, 501))),
+        ("h 50: 512 − 500 depths take 8 trials, the others 9",
+         [[depth.trials for depth in of_low].count(trials) for trials in (8, 9)], [12, 488]),
+    ]
+
+
+def plain_depth(forces, n):
+    """'the greatest u of the range at which the internal force is at most N', by a look at each; at depth 1 it is."""
+    return max(u for u, force in enumerate(forces, 1) if force <= n)
+
+
+def halving_rows(rng):
+    """Request 12 of 02: what remains of the rule is the depth of document 01, for random columns and their forces."""
+    found, plain = [], []
+    for column in (random_column(rng) for _ in range(12)):
+        forces = [internal_force(column, u) for u in range(1, 10 * column.height + 1)]
+        ns = {ceil(force) + more for force in (forces[0], forces[-1], *rng.sample(forces, 8)) for more in (-1, 0, 1)}
+        for n in sorted(n for n in ns if n >= forces[0]):
+            found.append((column, n, halving(upright(column), n).remaining))
+            plain.append((column, n, plain_depth(forces, n)))
+    return [("the candidate that remains is the depth that a look at each one finds", found, plain)]
+
+
 def block_rows():
     """Ticket 5: 80 times the depth factor and 1,000 times the strength factor of each class."""
     above_50 = {55: (63, 975), 60: (62, 950), 70: (60, 900), 80: (58, 850), 90: (56, 800)}
@@ -1856,6 +1997,7 @@ def main():
             + optional_record_rows("alpha_cc", REDUCED_EXAMPLE, REDUCED_A, REDUCED_LIST, (79, 34))
             + both_record_rows() + strain_line_rows() + beyond_rows() + beyond_face_rows() + beyond_case_rows()
             + beyond_shape_rows() + beyond_class_rows() + search_rows(random.Random(seed))
+            + trial_rows() + trial_refusal_rows() + trial_count_rows() + halving_rows(random.Random(seed))
             + block_rows() + refusal_rows() + sequence_rows())
     for name, computed, expected in rows:
         same = computed == expected

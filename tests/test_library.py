@@ -59,9 +59,10 @@ class Library(CommandTest):
         status, text = output_of(program)
         self.assertEqual(status, 0)
         section_a, column = (part.splitlines() for part in text.split("\n\n"))
-        self.assertEqual(section_a[:3], ["u 135.8 mm, MRd 257986051 N mm, VRd,c 86851 N, dm 450 mm, As 1500 mm2",
+        self.assertEqual(section_a[:4], ["u 135.8 mm, MRd 257986051 N mm, VRd,c 86851 N, dm 450 mm, As 1500 mm2",
                                          "the other face: u 41.9 mm, MRd 6312569 N mm",
-                                         "with links: VRd 222308 N, cotangent 2.5"])
+                                         "with links: VRd 222308 N, cotangent 2.5",
+                                         "depth from the top: 12 trials of the halving rule, never more than 15"])
         self.assertEqual(section_a[-2:], ["9.2.1.1(3), most reinforcement: pass",
                                           "6.2.3, |V| at most the links' resistance, their spacing and ratio: pass"])
         self.assertEqual(column[:2], ["u 431.3 mm (compressed over the full height), MRd 169948995 N mm, VRd,c 0 N, dm 0 mm, As 0 mm2",

@@ -4,6 +4,7 @@ use lib.Dec.{T}
 use Rattle.arith.specs.Every.{every}
 use Rattle.arith.specs.Fraction.{whole, integer, ratio, _+ᶠ_, _-ᶠ_, _*ᶠ_, _/ᶠ_, _÷ᶠ_, _+ʳ_, reciprocal, atMost, isSame, held, floor, roundedDown}
 use Rattle.arith.specs.Greatest.{greatest, firstGreatest}
+use Rattle.arith.specs.Halving.{halvedFrom, halved}
 use Rattle.materials.specs.Strength.{depthFactor, strengthFactor, L, f, g, s, CRdc, crd}
 use Rattle.materials.specs.Answer.{materialsIn, materialsOf, opened}
 use Rattle.beyond.specs.Force as beyond
@@ -40,7 +41,7 @@ all-hold : T (every holds cases) × (T (every tries depthRows) × T (every shows
 unfolding cases depthRows checkRows sectionTests accepted depthIn momentIn checkIn readTests readOf
 all-hold = rw everywhere (
     unfold sameListed answersBy isDepth foundAt reports
-    whole integer ratio _+ᶠ_ _-ᶠ_ _*ᶠ_ _/ᶠ_ _÷ᶠ_ _+ʳ_ reciprocal atMost isSame held floor roundedDown greatest firstGreatest
+    whole integer ratio _+ᶠ_ _-ᶠ_ _*ᶠ_ _/ᶠ_ _÷ᶠ_ _+ʳ_ reciprocal atMost isSame held floor roundedDown greatest firstGreatest halvedFrom halved
     depthFactor strengthFactor L f g s CRdc crd
     at concreteForce stress layerForce steelForce internalForce concreteMoment layerMoment steelResistance momentResistance
     beyond.blockDepth beyond.concreteForce beyond.belowPoint beyond.stress beyond.layerForce beyond.steelForce beyond.internalForce

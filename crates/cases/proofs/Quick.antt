@@ -40,7 +40,7 @@ use Rattle.clauses.specs.declared.Checked.the-variants.{Done}
 use Rattle.clauses.specs.Compressed.{ofCompressed, ofOther}
 use Rattle.clauses.specs.Check.{listed, reportAt, checkFaces, checkOf}
 use Rattle.clauses.proofs.Checking.{load-passed, top-refused, bottom-refused, both-reached}
-use Rattle.cases.specs.Case.{DepthRow, depthHolds, CheckRow, sameListed, checkHolds}
+use Rattle.cases.specs.Case.{DepthRow, isFound, depthHolds, CheckRow, sameListed, checkHolds}
 use Rattle.cases.proofs.Tried.{answersBy, answered}
 
 -- ---- u is the depth of a face under N, 0 for none: up to 10h it carries and the next tenth does not, or it is 10h; beyond 10h it is what the
@@ -79,32 +79,35 @@ module _ (x : Design) (ls : List Layer) (N : ℤ) (u : ℕ) where
 
 -- ---- a row of Find a depth that has a depth, or 12
 
--- d is the depth u, or 12 where u is 0
-abbrev isIt : Depth → ℕ → Bool
-isIt d u = eqb (depth.refusalNumber d) (cond (eqb u 0) 12 0) && eqb (depth.depthFound d) u
+-- d is the depth u after so many trials, or 12 where u is 0
+abbrev isIt : ℕ → ℕ → Depth → Bool
+isIt u trials d = isFound d (cond (eqb u 0) 12 0) u trials
 
-of-kind : (x : Design) (u : ℕ) → isIt (kind x u) u ≡ true
-of-kind x zero = refl
-of-kind x (suc u) =
+-- the trials are those of the rule where a trial is kept exactly where it is at most u
+of-kind : (x : Design) (u trials : ℕ) → eqb (depth.trialsFound (kind x u)) trials ≡ true → isIt u trials (kind x u) ≡ true
+of-kind x zero trials = λ e. e
+of-kind x (suc u) trials =
     let some = ne-eqb (suc u) 0 (λ e. omega arith) in
     let same = is-true (eqb (suc u) (suc u)) (eqb-refl (suc u)) in
-    by-cond (λ d. isIt d (suc u) ≡ true) (leb (suc u) (10 * x .h)) (λ t. rw (some, same)) (λ f. rw (some, same))
+    by-cond (λ d. eqb (depth.trialsFound d) trials ≡ true → isIt (suc u) trials d ≡ true) (leb (suc u) (10 * x .h))
+    (λ t e. rw (some, same) e) (λ f e. rw (some, same) e)
 
-module _ (s : Section) (N : ℤ) (u : ℕ) where
+module _ (s : Section) (N : ℤ) (u trials : ℕ) where
   unfoldable pub foundAt : Accepted → Bool
-  foundAt (Ready x) = forceOk N && (carries x (layersOf s) N 1 && isDepth x (layersOf s) N u)
+  foundAt (Ready x) = forceOk N && (carries x (layersOf s) N 1 && (isDepth x (layersOf s) N u && eqb (depth.trialsFound (kind x u)) trials))
   foundAt (Refused j) = false
 
-  found-sound : (a : Accepted) → accepted (counted s) ≡ a → foundAt a ≡ true → isIt (findDepth s N) u ≡ true
+  found-sound : (a : Accepted) → accepted (counted s) ≡ a → foundAt a ≡ true → isIt u trials (findDepth s N) ≡ true
   unfolding foundAt
   found-sound (Refused j) e h = absurd (holds h)
   found-sound (Ready x) e h =
       let ls = layersOf s in
-      let loaded = both-true (forceOk N) (carries x ls N 1 && isDepth x ls N u) h in
-      let face = both-true (carries x ls N 1) (isDepth x ls N u) (loaded .1) in
+      let loaded = both-true (forceOk N) _ h in
+      let one = both-true (carries x ls N 1) _ (loaded .1) in
+      let found = both-true (isDepth x ls N u) (eqb (depth.trialsFound (kind x u)) trials) (one .1) in
       let w = usable-by s e in
-      let is = find-in s N e (loaded .0) ∙ depth-kind N w (face .0) ∙ ap (kind x) (depth-is x ls N u (w .bounded) (face .1)) in
-      ap (λ d. isIt d u) is ∙ of-kind x u
+      let is = find-in s N e (loaded .0) ∙ depth-kind N w (one .0) ∙ ap (kind x) (depth-is x ls N u (w .bounded) (found .0)) in
+      ap (isIt u trials) is ∙ of-kind x u trials (found .1)
 
 -- ---- a row of Check that has depths, or 12
 
@@ -187,7 +190,7 @@ module _ (s : Section) (load : Load) (l : Listed) where
 -- ---- the test that is computed of a row, and that it says no less than the row
 
 abbrev foundRow : DepthRow → Bool
-foundRow row = foundAt (row .section) (row .n) (row .u) (accepted (counted (row .section)))
+foundRow row = foundAt (row .section) (row .n) (row .u) (row .trials) (accepted (counted (row .section)))
 
 -- it has a depth, or 12
 abbrev found : DepthRow → Bool
@@ -198,7 +201,7 @@ tries row = cond (found row) (foundRow row) (depthHolds row)
 
 tries-sound : (row : DepthRow) (done : Bool) → found row ≡ done → cond done (foundRow row) (depthHolds row) ≡ true → depthHolds row ≡ true
 tries-sound row true is h =
-    rw (eqb-true (row .refusal) _ is) (found-sound (row .section) (row .n) (row .u) (accepted (counted (row .section))) refl h)
+    rw (eqb-true (row .refusal) _ is) (found-sound (row .section) (row .n) (row .u) (row .trials) (accepted (counted (row .section))) refl h)
 tries-sound row false is h = h
 
 abbrev pub shows : CheckRow → Bool

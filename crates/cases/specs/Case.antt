@@ -141,18 +141,19 @@ holds (read xs k n z a) = readsAs (readOf xs) k n z a
 holds (struts x c k z) = eqb (linkResistance x c) k && eqb (strutResistance x c) z
 holds (shearNumbers s u k y z) = shearIs (layersOf s) (sections.accepted (counted s)) u k y z
 
--- a row of Find a depth: a section and N; then the refusal and u
+-- a row of Find a depth: a section and N; then the refusal, u and the trials
 pub record DepthRow : Type 0 where
   pub section : Section
   pub n : ℤ
   pub refusal : ℕ
   pub u : ℕ
+  pub trials : ℕ
 
-abbrev isFound : Depth → ℕ → ℕ → Bool
-isFound d k u = eqb (depth.refusalNumber d) k && eqb (depth.depthFound d) u
+abbrev pub isFound : Depth → ℕ → ℕ → ℕ → Bool
+isFound d k u t = eqb (depth.refusalNumber d) k && (eqb (depth.depthFound d) u && eqb (depth.trialsFound d) t)
 
 abbrev pub depthHolds : DepthRow → Bool
-depthHolds row = isFound (depth.findDepth (row .section) (row .n)) (row .refusal) (row .u)
+depthHolds row = isFound (depth.findDepth (row .section) (row .n)) (row .refusal) (row .u) (row .trials)
 
 -- a row of Check: a section and a load; then what is listed
 pub record CheckRow : Type 0 where

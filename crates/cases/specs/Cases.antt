@@ -98,6 +98,21 @@ mixed =
       layers = record { depth = 150; area = 20000 } ∷ record { depth = 450; area = 100 } ∷ replicate 14 noLayer;
     }
 
+-- the least height, 75 by 50, fck 90, fyk 463, two layers; and the greatest, 300 by 2,000, fck 30, fyk 500, one layer of 1,500 at 1,950
+abbrev low : Section
+low =
+    record {
+      width = pos 75;
+      height = pos 50;
+      grade = grade 90 463;
+      links = noLinks;
+      count = 2;
+      layers = record { depth = 7; area = 37 } ∷ record { depth = 43; area = 111 } ∷ replicate 14 noLayer;
+    }
+
+abbrev high : Section
+high = one 300 2000 30 1950
+
 -- A in a situation, with αcc, fyk and a count
 abbrev AWith : ℤ → ℤ → ℕ → ℕ → Section
 AWith situation alphacc fyk count = oneIn (gradeWith situation alphacc 30 fyk) count 300 500 450
@@ -172,8 +187,8 @@ strutLine = strutLineAt (face 1358 (pos 257986051)) (face 419 (pos 6312569))
 abbrev reducedStrutLine : ℕ → ℕ → ℕ → ℕ → Listed
 reducedStrutLine = strutLineAt (face 1598 (pos 251755182)) (face 428 (pos 5339334))
 
-abbrev finds : Section → ℤ → ℕ → ℕ → DepthRow
-finds s n refusal u = record { section = s; n = n; refusal = refusal; u = u }
+abbrev finds : Section → ℤ → ℕ → ℕ → ℕ → DepthRow
+finds s n refusal u trials = record { section = s; n = n; refusal = refusal; u = u; trials = trials }
 
 abbrev checks : Section → Load → Listed → CheckRow
 checks s l lists = record { section = s; load = l; lists = lists }
@@ -347,43 +362,50 @@ cases =
     ∷ resists A 0 13 (pos 0)
     ∷ []
 
--- the rows of Find a depth
+-- the rows of Find a depth: N, the refusal, u and the trials of the halving rule
 unfoldable pub depthRows : List DepthRow
 depthRows =
     -- (P) N 0 from the top
-    finds A (pos 0) 0 1358
+    finds A (pos 0) 0 1358 12
     -- (P) the least N, and below it
-    ∷ finds A (negℤ (pos 651690)) 0 1
-    ∷ finds A (negℤ (pos 651691)) 11 0
+    ∷ finds A (negℤ (pos 651690)) 0 1 12
+    ∷ finds A (negℤ (pos 651691)) 11 0 0
     -- (P) the greatest N up to 10h, and above it, where 01 had 12 and request 11 has a depth
-    ∷ finds A (pos 2505000) 0 5000
-    ∷ finds A (pos 2505001) 0 5001
+    ∷ finds A (pos 2505000) 0 5000 13
+    ∷ finds A (pos 2505001) 0 5001 0
     -- request 8: A in the accidental situation
-    ∷ finds accidentalA (pos 0) 0 1250
+    ∷ finds accidentalA (pos 0) 0 1250 13
     -- request 10: A with αcc 0.85, the ends of its range too
-    ∷ finds reducedA (pos 0) 0 1598
-    ∷ finds reducedA (negℤ (pos 651762)) 0 1
-    ∷ finds reducedA (negℤ (pos 651763)) 11 0
-    ∷ finds reducedA (pos 2145000) 0 5000
-    ∷ finds reducedA (pos 2145001) 0 5001
+    ∷ finds reducedA (pos 0) 0 1598 12
+    ∷ finds reducedA (negℤ (pos 651762)) 0 1 12
+    ∷ finds reducedA (negℤ (pos 651763)) 11 0 0
+    ∷ finds reducedA (pos 2145000) 0 5000 13
+    ∷ finds reducedA (pos 2145001) 0 5001 0
     -- request 10: 32 before 34, 34 before 5 and before 8
-    ∷ finds (AWith (pos 3) (pos 79) 500 0) (pos 500000001) 32 0
-    ∷ finds (AWith (pos 1) (pos 79) 500 0) (pos 500000001) 34 0
+    ∷ finds (AWith (pos 3) (pos 79) 500 0) (pos 500000001) 32 0 0
+    ∷ finds (AWith (pos 1) (pos 79) 500 0) (pos 500000001) 34 0 0
     -- request 11: A turned over by hand, where the force falls again after 6,250; A at 30h, and above it
-    ∷ finds overA (pos 3652170) 0 6250
-    ∷ finds overA (pos 3652171) 12 0
-    ∷ finds A (pos 3441000) 0 15000
-    ∷ finds A (pos 3441001) 12 0
+    ∷ finds overA (pos 3652170) 0 6250 0
+    ∷ finds overA (pos 3652171) 12 0 0
+    ∷ finds A (pos 3441000) 0 15000 0
+    ∷ finds A (pos 3441001) 12 0 0
     -- request 11: a force that falls below N again, so that halving would answer 12
-    ∷ finds hump (pos 3700000) 0 6078
+    ∷ finds hump (pos 3700000) 0 6078 0
     -- request 11: three layers on both sides of the point that the strain line turns about
-    ∷ finds column (pos 2380299) 0 5629
+    ∷ finds column (pos 2380299) 0 5629 0
     -- request 11: N on either side of the force at 10h, which is 4,315,968.75
-    ∷ finds (one 300 500 55 450) (pos 4315968) 0 4999
-    ∷ finds (one 300 500 55 450) (pos 4315969) 0 5001
+    ∷ finds (one 300 500 55 450) (pos 4315968) 0 4999 13
+    ∷ finds (one 300 500 55 450) (pos 4315969) 0 5001 0
     -- request 11: in the accidental situation, and of the last class
-    ∷ finds accidentalA (pos 3105001) 0 5001
-    ∷ finds (one 300 500 90 450) (pos 5118001) 0 5001
+    ∷ finds accidentalA (pos 3105001) 0 5001 0
+    ∷ finds (one 300 500 90 450) (pos 5118001) 0 5001 0
+    -- request 12: the trials at both ends of 1 to 10h, of the least height and of the greatest, where 15 are met; one newton beyond 10h
+    ∷ finds low (negℤ (pos 59332)) 0 1 8
+    ∷ finds low (pos 148977) 0 500 9
+    ∷ finds low (pos 148978) 0 501 0
+    ∷ finds high (negℤ (pos 651690)) 0 1 14
+    ∷ finds high (pos 9626250) 0 20000 15
+    ∷ finds high (pos 9626251) 0 20001 0
     ∷ []
 
 -- the rows of Check

@@ -1,7 +1,7 @@
 -- What the documents say of the definitions and no contract says: each a law, in full. A law that is taken away or weakened in its crate
 -- fails here. Assumes nothing.
-use Prim.Native.Nat.{ℕ, _+_, _*_, _^_, _≤_, _<_}
-use mathlib.Core.Bool.{false}
+use Prim.Native.Nat.{ℕ, suc, _+_, _*_, _^_, _≤_, _<_}
+use mathlib.Core.Bool.{true, false}
 use mathlib.Core.List.{List, [], _++_}
 use mathlib.Core.Path.{_≡_, refl}
 use lib.IntN.{ℤ, negℤ}
@@ -9,6 +9,7 @@ use lib.Signed.{_<ℤ_}
 use lib.ListN.{length}
 use Rattle.arith.specs.Fraction.{Ratio, Same, integer, _<ᶠ_}
 use Rattle.arith.specs.Greatest.{IsGreatest, IsLeast}
+use Rattle.arith.specs.Halving.{halved, keptUpTo}
 use Rattle.section.specs.declared.Layer.{Layer}
 use Rattle.section.specs.declared.Links.{Links}
 use Rattle.section.specs.declared.Section.{Section}
@@ -26,12 +27,13 @@ use Rattle.equilibrium.specs.Accuracy.{Range}
 use Rattle.equilibrium.specs.Force.{at, stress, internalForce}
 use Rattle.equilibrium.specs.Refusals.{carries, upTo10h}
 use Rattle.section.specs.Turned.{turned}
-use Rattle.equilibrium.specs.Depth.{findDepth}
+use Rattle.equilibrium.specs.Depth.{depthUnder, trialsUnder, findDepth}
 use Rattle.equilibrium.specs.Moment.{momentAt}
 use Rattle.section.proofs.Turned.{usable-turned}
 use Rattle.section.proofs.Usable.{usable-by}
 use Rattle.equilibrium.proofs.Found as equilibrium
 use Rattle.equilibrium.proofs.DepthOne as depthOne
+use Rattle.equilibrium.proofs.Halving as halving
 use Rattle.equilibrium.proofs.Accuracy as accuracy
 use Rattle.equilibrium.proofs.Meeting as meeting
 use Rattle.shear.specs.SizeFactor.{K}
@@ -122,6 +124,21 @@ never-beyond = intervals.reached-never
 -- where the face that M compresses lies beyond 10h no layer is in tension: verdicts two, three, four and six are 2 by the definitions
 pub beyond-unreached : (s : Section) (load : Load) → OfReport (λ x r. 10 * x .h < r .u → Unreached r) (accepted (counted s)) (checkOf s load)
 beyond-unreached = clauses.beyond-unreached
+
+-- the halving rule of 02's ticket 12, where N is not below the internal force at depth 1: one candidate remains, and it is the depth up to 10h
+pub rule-finds : (x : Design) (ls : List Layer) (N : ℤ) → Bounded x → carries x ls N 1 ≡ true
+    → (let c = halved (carries x ls N) (10 * x .h) in (c .least ≡ depthUnder ls N x) × (c .greatest ≡ depthUnder ls N x))
+rule-finds = halving.rule-finds
+
+-- its trials follow from the depth and h alone: a trial is kept exactly where it is at most the depth
+pub trials-by : (x : Design) (ls : List Layer) (N : ℤ) → carries x ls N 1 ≡ true
+    → trialsUnder ls N x ≡ halved (keptUpTo (depthUnder ls N x)) (10 * x .h) .trials
+trials-by = halving.trials-by
+
+-- and where 10h lies between 2^j and 2^(j + 1) there are j of them, or one more: so 8 or 9 at h 50, and 14 or 15 at h 2,000
+pub trials-between : (x : Design) (ls : List Layer) (N : ℤ) → Bounded x → (j : ℕ) → 2 ^ j ≤ 10 * x .h → 10 * x .h ≤ 2 ^ suc j
+    → (j ≤ trialsUnder ls N x) × (trialsUnder ls N x ≤ suc j)
+trials-between = halving.trials-between
 
 -- r and q are the greatest of all numbers that pass their tests, not only up to a bound
 pub r-greatest : {x : Design} {n : ℕ} (ls : List Layer) → Usable x n ls → (u : ℕ) → 1 ≤ As u ls

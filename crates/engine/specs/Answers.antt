@@ -1,4 +1,4 @@
--- The answers as C has them: document 01's numbers for each case. Assumes nothing.
+-- The answers as C has them: the numbers of documents 01 and 02 for each case. Assumes nothing.
 use Rattle.equilibrium.specs.declared.Depth.{Depth}
 use Rattle.equilibrium.specs.declared.Moment.{Moment}
 use Rattle.equilibrium.specs.Depth as depth
@@ -7,7 +7,7 @@ use Rattle.engine.specs.declared.DepthAnswer.{DepthAnswer}
 use Rattle.engine.specs.declared.MomentAnswer.{MomentAnswer}
 
 abbrev pub depthAnswer : Depth → DepthAnswer
-depthAnswer d = record { refusal = depth.refusalNumber d; depth = depth.depthFound d }
+depthAnswer d = record { refusal = depth.refusalNumber d; depth = depth.depthFound d; trials = depth.trialsFound d }
 
 abbrev pub momentAnswer : Moment → MomentAnswer
 momentAnswer m = record { refusal = moment.refusalNumber m; moment = moment.momentFound m }

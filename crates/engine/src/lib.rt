@@ -6,6 +6,7 @@ use record::Reading;
 use record::Written;
 use section::Load;
 use section::Section;
+ghost use Prim.Native.Nat.{_≤_};
 ghost use mathlib.Core.Path.{_≡_};
 ghost use Rattle.equilibrium.specs.Depth.{findDepth};
 ghost use Rattle.equilibrium.specs.Moment.{momentAt};
@@ -19,11 +20,12 @@ ghost use Rattle.record.specs.RoundTrip.{ReadsBack};
 ghost use Rattle.listing.specs.Answers.{listWritten, listBuffer};
 ghost use Rattle.engine.specs.Answers.{depthAnswer, momentAnswer};
 
-// The refusal, 0 for none, and the depth in tenths of a millimetre, up to 10h or beyond it.
+// The refusal, 0 for none; the depth in tenths of a millimetre, up to 10h or beyond it; and the trials of the halving rule, 0 beyond 10h.
 #[repr(C)]
 pub struct DepthAnswer {
     pub refusal: u64,
     pub depth: u64,
+    pub trials: u64,
 }
 
 // The refusal, 0 for none, and the moment resistance in N·mm.
@@ -33,23 +35,25 @@ pub struct MomentAnswer {
     pub moment: i64,
 }
 
+fn depth_answer(refusal: u64, depth: u64, trials: u64) -> DepthAnswer
+    ensures { λ r. ⌜ r ≡ record { refusal = refusal; depth = depth; trials = trials } ⌝ }
+{
+    DepthAnswer {
+        refusal: refusal,
+        depth: depth,
+        trials: trials,
+    }
+}
+
 #[no_mangle]
 pub extern "C" fn salwoerk_find_depth(s: Section, n: i64) -> DepthAnswer
     ensures { λ r. ⌜ r ≡ depthAnswer (findDepth s n) ⌝ }
+    ensures never_exceeds_15 { λ r. ⌜ r .trials ≤ 15 ⌝ }
 {
     match equilibrium::find_depth(s, n) {
-        Depth::At(u) => DepthAnswer {
-            refusal: 0,
-            depth: u,
-        },
-        Depth::Beyond(u) => DepthAnswer {
-            refusal: 0,
-            depth: u,
-        },
-        Depth::Refused(k) => DepthAnswer {
-            refusal: k as u64,
-            depth: 0,
-        },
+        Depth::At(u, t) => depth_answer(0, u, t),
+        Depth::Beyond(u) => depth_answer(0, u, 0),
+        Depth::Refused(k) => depth_answer(k as u64, 0, 0),
     }
 }
 

@@ -5,10 +5,11 @@ use mathlib.Core.Bool.{Bool, true, false, cond, _&&_, _||_}
 use mathlib.Core.List.{List, [], _∷_}
 use mathlib.Core.Path.{_≡_, refl, sym, ap, _∙_}
 use native.Mathlib.Omega.{arith}
-use lib.Dec.{leb}
+use lib.Dec.{leb, lit≤}
 use lib.IntN.{ℤ, natAbs}
 use borrow.Author.Tests.{leb-true, leb-false, le-leb, lt-leb}
 use Rattle.arith.specs.Chain.{test, orElse, firstFailing}
+use Rattle.arith.specs.Halving.{halved, keptUpTo}
 use Rattle.arith.proofs.Test.{by-cond}
 use Rattle.section.specs.declared.Layer.{Layer}
 use Rattle.section.specs.declared.Section.{Section}
@@ -23,15 +24,16 @@ use Rattle.section.specs.Section.{layersOf, counted}
 use Rattle.section.specs.Load.{forceOk}
 use Rattle.section.specs.Refusals.{accepted, answer}
 use Rattle.equilibrium.specs.Refusals.{carries, upTo10h, reaches, faceTests, faceTestsOf, findDepthTests, momentTests}
-use Rattle.section.specs.Code.Usable.{Usable}
+use Rattle.section.specs.Code.Usable.{Bounded, Usable}
 use Rattle.beyond.specs.Depth.{leastReaching}
 use Rattle.beyond.proofs.Intervals.{reached-in}
 use Rattle.equilibrium.specs.Depth as depth
 use Rattle.equilibrium.specs.Depth.{depthUnder, faceDepth, depthOf, depthAnswer, depthFor, depthIn, findDepth}
 use Rattle.equilibrium.specs.Moment.{refusalNumber, resistanceAt, momentIn, momentAt, momentFound}
 use Rattle.equilibrium.specs.Accuracy.{DepthPromise, PromisedDepth, AccurateFound, AccurateDepth}
-use Rattle.section.proofs.Usable.{section-promise, call-refused, call-ready, call-numbered, depths-within}
+use Rattle.section.proofs.Usable.{section-promise, usable-by, call-refused, call-ready, call-numbered, depths-within}
 use Rattle.equilibrium.proofs.Accuracy.{depth-low, depth-high, accuracy}
+use Rattle.equilibrium.proofs.Halving.{trials-by, trials-high}
 use Rattle.equilibrium.proofs.Range.{resistance-within}
 
 -- ---- Moment at a depth
@@ -72,14 +74,18 @@ module _ (s : Section) (u : ℕ) where
 
 -- the answer that a depth stands for: none, one up to 10h, or one beyond
 module _ (x : Design) where
+  -- the trials to a depth, from it and h alone
+  abbrev pub trialsTo : ℕ → ℕ
+  trialsTo u = halved (keptUpTo u) (10 * x .h) .trials
+
   abbrev pub kind : ℕ → Depth
   kind zero = Refused 12
-  kind (suc u) = cond (leb (suc u) (10 * x .h)) (At (suc u)) (Beyond (suc u))
+  kind (suc u) = cond (leb (suc u) (10 * x .h)) (At (suc u) (trialsTo (suc u))) (Beyond (suc u))
 
   pub kind-none : {u : ℕ} → u ≡ 0 → Refused 12 ≡ kind u
   kind-none e = rw e
 
-  pub kind-up-to : (u : ℕ) → 1 ≤ u → u ≤ 10 * x .h → At u ≡ kind u
+  pub kind-up-to : (u : ℕ) → 1 ≤ u → u ≤ 10 * x .h → At u (trialsTo u) ≡ kind u
   kind-up-to zero low high = absurd (omega arith)
   kind-up-to (suc u) low high = rw (le-leb (suc u) (10 * x .h) high)
 
@@ -132,7 +138,7 @@ module _ {x : Design} {count : ℕ} {ls : List Layer} (N : ℤ) (w : Usable x co
   -- by the two tests that make 12
   answered : (t r : Bool) → upTo10h x ls N ≡ t → leb 1 least ≡ r
       → depthAnswer ls N (orElse (test 12 (t || r)) 0) (section.Ready x) ≡ kind x (cond t (depthUnder ls N x) least)
-  answered true r e f = rw e (kind-up-to x (depthUnder ls N x) (depth-low x ls N (w .bounded) one) (depth-high x ls N (w .bounded) one))
+  answered true r e f = rw (e, trials-by x ls N one) (kind-up-to x (depthUnder ls N x) (depth-low x ls N (w .bounded) one) (depth-high x ls N (w .bounded) one))
   answered false true e f = let some = leb-true 1 least f in rw e (kind-beyond x least some (reached-in x ls N some .low))
   answered false false e f = kind-none x {u = least} (omega (arith, leb-false 1 least f))
 
@@ -197,7 +203,7 @@ module _ (s : Section) (N : ℤ) where
   -- ---- its accuracy, by cases of the section tests and of the load's
 
   from-promise : {x : Design} (r : Depth) → accepted (counted s) ≡ section.Ready x → PromisedDepth x (layersOf s) N r → AccurateFound s N (section.Ready x) r
-  from-promise (At u) e p = rw (moment-is s u e (p .1 .depth .low) (p .1 .depth .high)) (p .1 .accurate (p .0))
+  from-promise (At u trials) e p = rw (moment-is s u e (p .1 .depth .low) (p .1 .depth .high)) (p .1 .accurate (p .0))
   from-promise (Beyond u) e p = tt
   from-promise (Refused k) e p = tt
 
@@ -212,10 +218,25 @@ module _ (s : Section) (N : ℤ) where
   pub find-accurate : AccurateDepth s N (findDepth s N)
   find-accurate = accurate-for (accepted (counted s)) refl
 
+  -- ---- the number of its trials, by the same cases
+
+  few-in : {x : Design} (k : ℕ) → Bounded x → depth.trialsFound (depthAnswer (layersOf s) N k (section.Ready x)) ≤ 15
+  few-in (suc k) b = lit≤ tt
+  few-in {x} zero b =
+      by-cond (λ d. depth.trialsFound d ≤ 15) (upTo10h x (layersOf s) N) (λ t. trials-high x (layersOf s) N b) (λ f. lit≤ tt)
+
+  few-for : (a : Accepted) → accepted (counted s) ≡ a → depth.trialsFound (findDepth s N) ≤ 15
+  few-for (section.Refused k) e = rw (find-refused e) (lit≤ tt)
+  few-for (section.Ready x) e =
+      rw (find-ready e) (few-in (orElse (test 8 (forceOk N)) (firstFailing (faceTests x (layersOf s) N))) (usable-by s e .bounded))
+
+  pub find-few : depth.trialsFound (findDepth s N) ≤ 15
+  find-few = few-for (accepted (counted s)) refl
+
   -- the other clauses of `find_depth` follow from its first
   pub find-clauses : {r : Depth} → r ≡ findDepth s N
-      → (r ≡ findDepth s N) × ((depth.refusalNumber r ≡ firstFailing (findDepthTests (counted s) N)) × AccurateDepth s N r)
-  find-clauses e = (e, (rw e find-numbered, rw e find-accurate))
+      → (r ≡ findDepth s N) × ((depth.refusalNumber r ≡ firstFailing (findDepthTests (counted s) N)) × (AccurateDepth s N r × (depth.trialsFound r ≤ 15)))
+  find-clauses e = (e, (rw e find-numbered, (rw e find-accurate, rw e find-few)))
 
 -- ---- places beyond the count: sections that differ only there have one answer
 

@@ -1,6 +1,7 @@
 pub mod Rising
 pub mod Nearness
 pub mod Accuracy
+pub mod Halving
 pub mod Found
 pub mod Whole
 pub mod Sizes

@@ -59,15 +59,15 @@ pub record DepthPromise (x : Design) (ls : List Layer) (N : ℤ) (u : ℕ) : Typ
 
 -- by cases of the answer: a depth of its kind; or 11 or 12
 abbrev pub PromisedDepth : Design → List Layer → ℤ → Depth → Type 0
-PromisedDepth x ls N (At u) = (u ≤ 10 * x .h) × DepthPromise x ls N u
+PromisedDepth x ls N (At u trials) = (u ≤ 10 * x .h) × DepthPromise x ls N u
 PromisedDepth x ls N (Beyond u) = (10 * x .h < u) × DepthPromise x ls N u
 PromisedDepth x ls N (Refused k) = OneOf faceRefusals k
 
 -- Of Find a depth: a depth up to 10h that is answered is accurate, with the moment that Moment at a depth answers for the same section
 -- and u; of one beyond 10h nothing is said; and only an accepted section has one.
 abbrev pub AccurateFound : Section → ℤ → Accepted → Depth → Type 0
-AccurateFound s N (section.Ready x) (At u) = Accurate x (counted s .layers) N u (momentFound (momentAt s u))
-AccurateFound s N (section.Refused k) (At u) = ⊥
+AccurateFound s N (section.Ready x) (At u trials) = Accurate x (counted s .layers) N u (momentFound (momentAt s u))
+AccurateFound s N (section.Refused k) (At u trials) = ⊥
 AccurateFound s N (section.Ready x) (Beyond u) = Unit {0}
 AccurateFound s N (section.Refused k) (Beyond u) = ⊥
 AccurateFound s N a (Refused k) = Unit {0}

@@ -1,10 +1,11 @@
--- Find a depth: document 01, "Equilibrium", and 02's ticket 11 for depths beyond 10h. Assumes nothing.
+-- Find a depth: document 01, "Equilibrium", 02's ticket 11 for depths beyond 10h, and its ticket 12 for the number of trials. Assumes nothing.
 use Prim.Native.Nat.{ℕ, _*_}
 use mathlib.Core.Bool.{cond}
 use mathlib.Core.List.{List}
 use lib.IntN.{ℤ}
 use Rattle.arith.specs.Chain.{firstFailing}
 use Rattle.arith.specs.Greatest.{greatest}
+use Rattle.arith.specs.Halving.{halved}
 use Rattle.section.specs.declared.Layer.{Layer}
 use Rattle.section.specs.declared.Section.{Section}
 use Rattle.section.specs.declared.Design.{Design}
@@ -17,29 +18,39 @@ use Rattle.section.specs.Refusals.{accepted, answer}
 use Rattle.beyond.specs.Depth.{leastReaching}
 use Rattle.equilibrium.specs.Refusals.{carries, upTo10h, faceTests, findDepthTests}
 
--- the paper's numbers for each case of the answer: the refusal, 0 for none, and u, 0 where refused
+-- the papers' numbers for each case of the answer: the refusal, 0 for none; u, 0 where refused; and the number of trials, which "refused calls and
+-- depths beyond 10h report" as 0
 abbrev pub refusalNumber : Depth → ℕ
-refusalNumber (At u) = 0
+refusalNumber (At u trials) = 0
 refusalNumber (Beyond u) = 0
 refusalNumber (Refused k) = k
 
 abbrev pub depthFound : Depth → ℕ
-depthFound (At u) = u
+depthFound (At u trials) = u
 depthFound (Beyond u) = u
 depthFound (Refused k) = 0
+
+abbrev pub trialsFound : Depth → ℕ
+trialsFound (At u trials) = trials
+trialsFound (Beyond u) = 0
+trialsFound (Refused k) = 0
 
 -- up to 10h: the greatest u of the range, 1 to 10h, at which the internal force is at most N
 abbrev pub depthUnder : List Layer → ℤ → Design → ℕ
 depthUnder ls N x = greatest (carries x ls N) (10 * x .h)
+
+-- how many trials the halving rule takes to it, whose candidates are "first 1 and 10h", and whose test is that the internal force is at most N
+abbrev pub trialsUnder : List Layer → ℤ → Design → ℕ
+trialsUnder ls N x = halved (carries x ls N) (10 * x .h) .trials
 
 -- the depth of a face under N: up to 10h; or, for N above the internal force at 10h, the least beyond it that reaches N (ticket 11), 0 where
 -- none up to 30h does
 abbrev pub faceDepth : List Layer → ℤ → Design → ℕ
 faceDepth ls N x = cond (upTo10h x ls N) (depthUnder ls N x) (leastReaching x ls N)
 
--- and which of the two it is
+-- and which of the two it is, the first with its trials
 abbrev pub depthOf : List Layer → ℤ → Design → Depth
-depthOf ls N x = cond (upTo10h x ls N) (At (depthUnder ls N x)) (Beyond (leastReaching x ls N))
+depthOf ls N x = cond (upTo10h x ls N) (At (depthUnder ls N x) (trialsUnder ls N x)) (Beyond (leastReaching x ls N))
 
 abbrev pub depthAnswer : List Layer → ℤ → ℕ → Accepted → Depth
 depthAnswer ls N = answer Refused (depthOf ls N)

@@ -8,6 +8,7 @@ use section::Accepted;
 use section::Section;
 use section::columns;
 use section::refusals;
+ghost use Prim.Native.Nat.{_≤_};
 ghost use mathlib.Core.Path.{_≡_};
 ghost use Rattle.arith.specs.Chain.{firstFailing};
 ghost use Rattle.section.specs.Section.{counted};
@@ -18,10 +19,10 @@ ghost use Rattle.equilibrium.specs.Moment as moment;
 ghost use Rattle.equilibrium.specs.Moment.{momentAt};
 ghost use Rattle.equilibrium.specs.Accuracy.{AccurateDepth};
 
-// The depth of the neutral axis, in tenths of a millimetre from the compressed face: up to 10h, or beyond it, where the section is compressed over
-// its full height; or why there is none.
+// The depth of the neutral axis, in tenths of a millimetre from the compressed face: up to 10h, with the number of trials that the halving rule of
+// document 02's ticket 12 takes to it; or beyond 10h, where the section is compressed over its full height; or why there is none.
 pub enum Depth {
-    At(u64),
+    At(u64, u64),
     Beyond(u64),
     Refused(u8),
 }
@@ -33,12 +34,14 @@ pub enum Moment {
 }
 
 // Find a depth, with the top compressed: the greatest u from 1 to 10h tenths of a millimetre at which the internal force is at most N; for N
-// above the internal force at 10h, the least u beyond it, up to 30h, at which the internal force is at least N.
+// above the internal force at 10h, the least u beyond it, up to 30h, at which the internal force is at least N. With a depth up to 10h comes the number of
+// trials of the halving rule; refusals and depths beyond 10h report 0 (`trialsFound`).
 // Refusals: the section tests, 8 N out of range, 11 N below the internal force at depth 1, 12 no u up to 30h reaches N.
 pub fn find_depth(s: Section, n: i64) -> Depth
     ensures { λ r. ⌜ r ≡ findDepth s n ⌝ }
     ensures refusal { λ r. ⌜ depth.refusalNumber r ≡ firstFailing (findDepthTests (counted s) n) ⌝ }
     ensures accurate { λ r. ⌜ AccurateDepth s n r ⌝ }
+    ensures never_exceeds_15 { λ r. ⌜ depth.trialsFound r ≤ 15 ⌝ }
 {
     let layers = s.layers;
     let grade = s.grade;

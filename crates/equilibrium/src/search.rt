@@ -183,7 +183,8 @@ pub fn depth_above_one(
     u
 }
 
-// The depth of an accepted section under N, with the face compressed from which its depths are measured; or 11 or 12.
+// The depth of an accepted section under N, with the face compressed from which its depths are measured; or 11 or 12. The trials of the halving rule
+// follow from the depth and h alone, so that no force is asked for them.
 pub fn depth_for(
     x: Design,
     count: usize,
@@ -203,8 +204,9 @@ pub fn depth_for(
     if u == 0 {
         return Depth::Refused(12);
     }
-    if u <= 10 * x.h {
-        return Depth::At(u);
+    let most = 10 * x.h;
+    if u <= most {
+        return Depth::At(u, arith::trials_to(u, most));
     }
     Depth::Beyond(u)
 }

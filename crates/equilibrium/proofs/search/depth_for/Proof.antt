@@ -64,13 +64,16 @@ module _ (c : tie.After-depth-above-one) where
 returns-2 : tie.Need-returns-2
 returns-2 c = let a = c .before in ended a (kind-none (s a .args .x) (c .if2 .taken))
 
-mul-if3 : tie.Need-mul-if3
-mul-if3 c = search needs
+mul-most : tie.Need-mul-most
+mul-most c = search needs
+
+trials-to-requires : tie.Need-trials-to-requires
+trials-to-requires c κs = omega (arith, c .before .before .if2 .left)
 
 returns-3 : tie.Need-returns-3
 returns-3 c =
-    let a = c .before .before .before in
-    ended a (kind-up-to (s a .args .x) _ (omega (arith, c .before .before .if2 .left)) (c .if3 .taken))
+    let a = c .before .before .before .before in
+    ended a (rw (c .trials-to .ensures) (kind-up-to (s a .args .x) _ (omega (arith, c .before .before .before .if2 .left)) (c .before .if3 .taken)))
 
 returns-4 : tie.Need-returns-4
 returns-4 c =
@@ -85,6 +88,7 @@ depth-for-spec =
     returns
     depth-above-one-requires
     returns-2
-    mul-if3
+    mul-most
+    trials-to-requires
     returns-3
     returns-4)
