@@ -131,8 +131,7 @@ pub rule-finds : (x : Design) (ls : List Layer) (N : ℤ) → Bounded x → carr
 rule-finds = halving.rule-finds
 
 -- its trials follow from the depth and h alone: a trial is kept exactly where it is at most the depth
-pub trials-by : (x : Design) (ls : List Layer) (N : ℤ) → carries x ls N 1 ≡ true
-    → trialsUnder ls N x ≡ halved (keptUpTo (depthUnder ls N x)) (10 * x .h) .trials
+pub trials-by : (x : Design) (ls : List Layer) (N : ℤ) → trialsUnder ls N x ≡ halved (keptUpTo (depthUnder ls N x)) (10 * x .h) .trials
 trials-by = halving.trials-by
 
 -- and where 10h lies between 2^j and 2^(j + 1) there are j of them, or one more: so 8 or 9 at h 50, and 14 or 15 at h 2,000

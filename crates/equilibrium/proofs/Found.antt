@@ -138,7 +138,7 @@ module _ {x : Design} {count : ℕ} {ls : List Layer} (N : ℤ) (w : Usable x co
   -- by the two tests that make 12
   answered : (t r : Bool) → upTo10h x ls N ≡ t → leb 1 least ≡ r
       → depthAnswer ls N (orElse (test 12 (t || r)) 0) (section.Ready x) ≡ kind x (cond t (depthUnder ls N x) least)
-  answered true r e f = rw (e, trials-by x ls N one) (kind-up-to x (depthUnder ls N x) (depth-low x ls N (w .bounded) one) (depth-high x ls N (w .bounded) one))
+  answered true r e f = rw (e, trials-by x ls N) (kind-up-to x (depthUnder ls N x) (depth-low x ls N (w .bounded) one) (depth-high x ls N (w .bounded) one))
   answered false true e f = let some = leb-true 1 least f in rw e (kind-beyond x least some (reached-in x ls N some .low))
   answered false false e f = kind-none x {u = least} (omega (arith, leb-false 1 least f))
 

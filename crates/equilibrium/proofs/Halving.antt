@@ -16,8 +16,8 @@ use Rattle.equilibrium.proofs.Accuracy.{never-back}
 
 module _ (x : Design) (ls : List Layer) (N : ℤ) where
   -- the trials follow from the depth and h alone: a trial is kept exactly where it is at most the depth
-  pub trials-by : carries x ls N 1 ≡ true → trialsUnder ls N x ≡ halved (keptUpTo (depthUnder ls N x)) (10 * x .h) .trials
-  trials-by one = ap (λ (c : Halving). c .trials) (rule.halved-by (carries x ls N) (never-back x ls N) (10 * x .h) one)
+  pub trials-by : trialsUnder ls N x ≡ halved (keptUpTo (depthUnder ls N x)) (10 * x .h) .trials
+  trials-by = ap (λ (c : Halving). c .trials) (rule.halved-by (carries x ls N) (never-back x ls N) (10 * x .h))
 
   module _ (b : Bounded x) where
     some : 1 ≤ 10 * x .h

@@ -2,7 +2,7 @@
 use mathlib.Core.Logic.{⊎-elim}
 use native.Mathlib.Omega.{arith}
 use borrow.Author.Needs.{needs}
-use Rattle.arith.proofs.Halving.{Walk, set-out, walk-kept, walk-dropped, arrived}
+use Rattle.arith.proofs.Walk.{Walk, set-out, walk-kept, walk-dropped, arrived}
 use Rattle.arith.proofs.trials_to.Statement.{statement}
 use Rattle.arith.proofs.trials_to.Tie as tie
 
