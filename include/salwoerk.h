@@ -214,9 +214,9 @@ static inline int salwoerk_is_beyond(int64_t height, uint64_t depth)
  * height. Links are not looked at. Refusals: section tests, 8, 11 12; 12 where no depth up to 30h reaches N.
  *
  * `trials` is how many trials the halving rule takes to this depth: it keeps a least and a greatest candidate, first 1 and 10h, and tries their mean
- * rounded up, keeping it and what lies above where the internal force there is at most N, else what lies below, until one remains. A figure to plan by:
- * the library itself searches in another way, with fewer. It follows from depth and height alone, and is 8 or 9 at a height of 50 mm, 14 or 15 at one
- * of 2,000 mm. */
+ * rounded up, keeping it and what lies above where the internal force there is at most N, else what lies below, until one remains. It is a figure to
+ * plan by, which follows from depth and height alone: 8 or 9 at a height of 50 mm, 14 or 15 at one of 2,000 mm. The library itself searches in another
+ * way. */
 typedef struct {
     uint64_t refusal;
     uint64_t depth; /* 1 to 30h, of either kind; 0 where refused */
