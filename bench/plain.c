@@ -100,7 +100,8 @@ static inline int64_t depth_within(const salwoerk_layer *layers, size_t count, i
     return lo;
 }
 
-/* The same with its trials, for Find a depth alone: this halving is the rule that ticket 12 counts them by, and Check has no use for the number. */
+/* The same with its trials, for Find a depth alone: this halving is the rule that ticket 12 counts them by. A loop of its own, because Check has no use
+ * for the number, and gcc makes other code of Check where one is made of the other. */
 static inline salwoerk_depth counted_within(const salwoerk_layer *layers, size_t count, int64_t flb, int64_t h, const struct materials *m, int64_t n)
 {
     int64_t lo = 1, hi = 10 * h;

@@ -16,7 +16,7 @@
 
 /* Of this header: MAJOR changes where a caller must be compiled again, MINOR where something is added, PATCH else.
  * 6.0.0: the answer of salwoerk_find_depth holds after the depth the number of trials of the halving rule (request 12); so whoever calls it must be
- * compiled again. No other struct, no call and no answer changed.
+ * compiled again. No other struct, no call and no other answer changed.
  * 5.1.0: a depth may be beyond 10h, up to 30h: that of a section compressed over its full height (clause 6.1, request 11), under an N that was refused by
  * 12 before. 12 is now given where no depth up to 30h reaches N, and 13 begins above 30h. No struct and no call changed; but whoever takes every depth
  * to lie in the section, to draw the neutral axis, say, now asks first: salwoerk_is_beyond, which is new.

@@ -14,7 +14,7 @@ from math import ceil
 from typing import NamedTuple
 
 import second
-from samples import HALVED_HEIGHTS, faces_of, halved_depths, last_spacing, last_up_to_10h, least_link_area
+from samples import HALVED_HEIGHTS, faces_of, depths_of_the_rule, last_spacing, last_up_to_10h, least_link_area
 
 LIST_REFUSALS = tuple(dict.fromkeys(
     second.SEQUENCES["Read a record"] + second.SEQUENCES["Check"] + second.SEQUENCES["List program"]))
@@ -199,7 +199,7 @@ def trial_turns(section, n, answer):
         for number in numbers_of_trials(height):
             yield f"takes {number} trials of {10 * height:,} candidates", (
                 within and section.height == height and trials == number)
-    for name, depth in halved_depths(section.height).items():
+    for name, depth in depths_of_the_rule(section.height).items():
         there = within and u == depth
         yield f"ends at {name}, N the force there", there and n == second.internal_force(section, u)
         if name != "10h":  # there N is the force itself, or u is less

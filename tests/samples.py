@@ -473,7 +473,7 @@ def column_grade_samples():
 HALVED_HEIGHTS = (50, 51, 52, 102, 103, 204, 205, 409, 410, 819, 820, 1_638, 1_639, 2_000)
 
 
-def halved_depths(height):
+def depths_of_the_rule(height):
     """Depths that the rule ends at, by their names: each trial dropped or each kept, and so after the first mean."""
     first, last = 5 * height + 1, 10 * height  # the mean of 1 and 10h, rounded up
     return {"1": 1, "2": 2, "the first mean - 1": first - 1, "the first mean": first, "the first mean + 1": first + 1,
@@ -493,7 +493,7 @@ def halving_samples():
         fraction = second.section_of(300, height, 35, 500, [(9 * height // 10, 777), (7, 35)])
         for section in (whole, fraction):
             least = least_force(section)
-            for u in halved_depths(height).values():
+            for u in depths_of_the_rule(height).values():
                 for n in axial_forces_about(section, u):
                     yield Sample(f"h {height}, N {n} about depth {u}", section, Load(n, 0, 0), 0 if n >= least else 11)
 

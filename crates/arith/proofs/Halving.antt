@@ -9,7 +9,7 @@ use lib.Pow.{pow-pos}
 use lib.Dec.{ltb}
 use borrow.Author.Tests.{ltb-true, ltb-false, le-leb, lt-leb}
 use Rattle.arith.specs.Greatest.{greatest}
-use Rattle.arith.specs.Halving.{Halving, mean, tried, halvedFrom, halved, keptUpTo}
+use Rattle.arith.specs.Halving.{Halving, mean, first, tried, halvedFrom, halved, keptUpTo}
 use Rattle.arith.proofs.Greatest.{NeverBack, Candidates, start, kept, dropped, found, le-greatest, greatest-lt}
 use Rattle.arith.proofs.Test.{by-cond}
 
@@ -81,9 +81,9 @@ module _ (p : ℕ → Bool) where
 
   module _ (m : ℕ) (some : 1 ≤ m) where
     by-rule : (Q : Halving → Type 0) → ((c : Halving) → c .least < c .greatest → Q c → Q (tried p c))
-        → Q (record { least = 1; greatest = m; trials = 0 }) → (halved p m .least ≡ halved p m .greatest) × Q (halved p m)
+        → Q (first m) → (halved p m .least ≡ halved p m .greatest) × Q (halved p m)
     unfolding halved
-    by-rule Q keeps q = ended Q keeps m (record { least = 1; greatest = m; trials = 0 }) (omega (arith, some)) (omega arith) q
+    by-rule Q keeps q = ended Q keeps m (first m) (omega (arith, some)) (omega arith) q
 
     -- "until one remains"
     pub one-remains : halved p m .least ≡ halved p m .greatest
@@ -140,7 +140,7 @@ module _ (p q : ℕ → Bool) (m : ℕ) (same : (k : ℕ) → 1 ≤ k → k ≤ 
 
   same-halved : halved p m ≡ halved q m
   unfolding halved
-  same-halved = same-from m (record { least = 1; greatest = m; trials = 0 }) (omega arith) (omega arith)
+  same-halved = same-from m (first m) (omega arith) (omega arith)
 
 -- of a test that never comes back: it passes exactly up to the greatest number that passes
 module _ (p : ℕ → Bool) (never : NeverBack p) (m : ℕ) where

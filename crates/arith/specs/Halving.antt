@@ -14,6 +14,10 @@ pub record Halving : Type 0 where
 abbrev pub mean : ℕ → ℕ → ℕ
 mean least greatest = (least + greatest + 1) / 2
 
+-- the candidates, "first 1 and" m
+abbrev pub first : ℕ → Halving
+first m = record { least = 1; greatest = m; trials = 0 }
+
 module _ (p : ℕ → Bool) where
   -- "It tries their mean rounded up, keeping it and what lies above where" the test p passes there, "else what lies below"
   abbrev pub tried : Halving → Halving
@@ -27,10 +31,11 @@ module _ (p : ℕ → Bool) where
   halvedFrom zero c = c
   halvedFrom (suc n) c = cond (ltb (c .least) (c .greatest)) (halvedFrom n (tried c)) c
 
-  -- the rule, "first 1 and" m: what it ends with
+  -- the rule: what it ends with
   unfoldable pub halved : ℕ → Halving
-  halved m = halvedFrom m (record { least = 1; greatest = m; trials = 0 })
+  halved m = halvedFrom m (first m)
 
--- the test by which the code counts: a trial is kept exactly where it is at most u
+-- a test that passes exactly at the numbers that are at most u: the trials of any that never comes back are those of this one (law `halved-by`),
+-- and by it the code counts
 abbrev pub keptUpTo : ℕ → ℕ → Bool
 keptUpTo u k = leb k u

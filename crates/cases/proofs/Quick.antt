@@ -83,7 +83,7 @@ module _ (x : Design) (ls : List Layer) (N : ℤ) (u : ℕ) where
 abbrev isIt : ℕ → ℕ → Depth → Bool
 isIt u trials d = isFound d (cond (eqb u 0) 12 0) u trials
 
--- the trials are those of the rule where a trial is kept exactly where it is at most u
+-- the answer that a depth stands for is that depth, where its trials are as many
 of-kind : (x : Design) (u trials : ℕ) → eqb (depth.trialsFound (kind x u)) trials ≡ true → isIt u trials (kind x u) ≡ true
 of-kind x zero trials = λ e. e
 of-kind x (suc u) trials =

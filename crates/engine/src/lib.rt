@@ -20,7 +20,7 @@ ghost use Rattle.record.specs.RoundTrip.{ReadsBack};
 ghost use Rattle.listing.specs.Answers.{listWritten, listBuffer};
 ghost use Rattle.engine.specs.Answers.{depthAnswer, momentAnswer};
 
-// The refusal, 0 for none; the depth in tenths of a millimetre, up to 10h or beyond it; and the trials of the halving rule, 0 beyond 10h.
+// The refusal, 0 for none; the depth in tenths of a millimetre, up to 10h or beyond it; and the trials of the halving rule, 0 where refused and beyond 10h.
 #[repr(C)]
 pub struct DepthAnswer {
     pub refusal: u64,
@@ -35,6 +35,7 @@ pub struct MomentAnswer {
     pub moment: i64,
 }
 
+// The answer with these numbers, so that each case of it is one line below.
 fn depth_answer(refusal: u64, depth: u64, trials: u64) -> DepthAnswer
     ensures { λ r. ⌜ r ≡ record { refusal = refusal; depth = depth; trials = trials } ⌝ }
 {

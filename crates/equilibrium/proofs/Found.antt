@@ -230,7 +230,7 @@ module _ (s : Section) (N : ℤ) where
   few-for (section.Ready x) e =
       rw (find-ready e) (few-in (orElse (test 8 (forceOk N)) (firstFailing (faceTests x (layersOf s) N))) (usable-by s e .bounded))
 
-  pub find-few : depth.trialsFound (findDepth s N) ≤ 15
+  find-few : depth.trialsFound (findDepth s N) ≤ 15
   find-few = few-for (accepted (counted s)) refl
 
   -- the other clauses of `find_depth` follow from its first

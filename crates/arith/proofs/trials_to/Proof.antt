@@ -7,10 +7,10 @@ use Rattle.arith.proofs.trials_to.Statement.{statement}
 use Rattle.arith.proofs.trials_to.Tie as tie
 
 abbrev Inv-loop : tie.InvT-loop
-Inv-loop u most width₀ above₀ trials₀ width above trials = Walk u most width above trials
+Inv-loop u most candidates₀ above₀ trials₀ candidates above trials = Walk u most candidates above trials
 
 abbrev μ-loop : tie.MeasureT-loop
-μ-loop u most width₀ above₀ trials₀ width above trials = width
+μ-loop u most candidates₀ above₀ trials₀ candidates above trials = candidates
 
 sub-above : tie.Need-sub-above Inv-loop μ-loop
 sub-above c = search needs
@@ -18,8 +18,8 @@ sub-above c = search needs
 loop-holds : tie.Need-loop-holds Inv-loop μ-loop
 loop-holds c = set-out (c .args .u) (c .args .most) (c .pre)
 
-sub-width : tie.Need-sub-width Inv-loop μ-loop
-sub-width c = search needs
+sub-candidates : tie.Need-sub-candidates Inv-loop μ-loop
+sub-candidates c = search needs
 
 add-trials : tie.Need-add-trials Inv-loop μ-loop
 add-trials c =
@@ -50,7 +50,7 @@ trials-to-spec =
     μ-loop
     sub-above
     loop-holds
-    sub-width
+    sub-candidates
     add-trials
     loop-less
     loop-again

@@ -5,7 +5,6 @@ use lib.IntN.{ℤ}
 use mir.Facts.{toZ-ofZ}
 use Rattle.equilibrium.specs.declared.Depth.{Depth}
 use Rattle.equilibrium.specs.Depth.{findDepth}
-use Rattle.equilibrium.proofs.Found.{find-few}
 use borrow.Author.Needs.{needs}
 use Rattle.engine.specs.declared.DepthAnswer.{DepthAnswer}
 use Rattle.engine.specs.Answers.{depthAnswer}
@@ -39,12 +38,10 @@ depth-answer-requires-3 c κs = search needs
 answer : (c : tie.After-find-depth) → c .find-depth .result ≡ findDepth (c .before .args .s) (c .before .args .n)
 answer c = c .find-depth .ensures .0 ∙ ap (λ (z : ℤ). findDepth (c .before .args .s) z) (toZ-ofZ (c .before .fits .n))
 
--- the answer in C's numbers; the second clause follows from the first
+-- the answer in C's numbers; the second clause is that of `find_depth`
 clauses : (c : tie.After-find-depth) {d : Depth} {r : DepthAnswer} → c .find-depth .result ≡ d → r ≡ depthAnswer d
     → (r ≡ depthAnswer (findDepth (c .before .args .s) (c .before .args .n))) × (r .trials ≤ 15)
-clauses c is e =
-    let found = e ∙ ap depthAnswer (sym is ∙ answer c) in
-    (found, rw found (find-few (c .before .args .s) (c .before .args .n)))
+clauses c is e = (e ∙ ap depthAnswer (sym is ∙ answer c), rw e (rw is at (c .find-depth .ensures .1 .1 .1)))
 
 returns : tie.Need-returns
 returns c = clauses (c .before .before .before .before) (c .before .before .u .given .1) (c .depth-answer .ensures)
