@@ -14,7 +14,7 @@ from math import ceil
 from typing import NamedTuple
 
 import second
-from samples import HALVED_HEIGHTS, faces_of, depths_of_the_rule, last_spacing, last_up_to_10h, least_link_area
+from samples import HALVED_HEIGHTS, depths_of_the_rule, faces_of, last_spacing, last_up_to_10h, least_link_area
 
 LIST_REFUSALS = tuple(dict.fromkeys(
     second.SEQUENCES["Read a record"] + second.SEQUENCES["Check"] + second.SEQUENCES["List program"]))

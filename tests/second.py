@@ -11,9 +11,8 @@ Run by itself it answers every row of "Reference cases" and prints 'ok' or
 'DIFFERS' for each; the expected values there are the papers', and the project's
 own for the section that no M suits, for the links, for the accidental situation,
 for αcc below 1, for most depths beyond 10h and for the trials of the halving rule,
-some of which are worked out by hand. Both
-searches answer beside the plain look at every depth, for random sections whose
-seed is printed.
+some of which are worked out by hand. Both searches answer beside the plain look
+at every depth, for random sections whose seed is printed.
 """
 
 import random
