@@ -15,6 +15,7 @@
 #include <stdint.h>
 
 /* Of this header: MAJOR changes where a caller must be compiled again, MINOR where something is added, PATCH else.
+ * 6.0.1: what is said of the sequence of layers; nothing else changed.
  * 6.0.0: the answer of salwoerk_find_depth holds after the depth the number of trials of the halving rule (request 12); so whoever calls it must be
  * compiled again. No other struct, no call and no other answer changed.
  * 5.1.0: a depth may be beyond 10h, up to 30h: that of a section compressed over its full height (clause 6.1, request 11), under an N that was refused by
@@ -34,7 +35,7 @@
  * it must be compiled again. */
 #define SALWOERK_VERSION_MAJOR 6
 #define SALWOERK_VERSION_MINOR 0
-#define SALWOERK_VERSION_PATCH 0
+#define SALWOERK_VERSION_PATCH 1
 #define SALWOERK_VERSION (SALWOERK_VERSION_MAJOR * 10000 + SALWOERK_VERSION_MINOR * 100 + SALWOERK_VERSION_PATCH)
 
 #ifdef __cplusplus
@@ -67,7 +68,8 @@ typedef struct {
     uint32_t area, spacing;
 } salwoerk_links;
 
-/* Width and height in mm. Only the first `count` layers are read. */
+/* Width and height in mm. Only the first `count` layers are read. They may stand in any sequence: it makes no difference to what salwoerk_find_depth,
+ * salwoerk_moment_at and salwoerk_check answer, refusals included (request 2, proved). A record has them in the sequence in which they stand here. */
 typedef struct {
     salwoerk_layer layers[SALWOERK_LAYERS];
     int64_t width, height;

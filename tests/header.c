@@ -60,7 +60,7 @@ TAKES(salwoerk_written, 16);
 LIES(salwoerk_written, refusal, 0, 8);
 LIES(salwoerk_written, length, 8, 8);
 
-_Static_assert(SALWOERK_VERSION == 60000, "6.0.0");
+_Static_assert(SALWOERK_VERSION == 60001, "6.0.1");
 _Static_assert(SALWOERK_MOST_TRIALS == 15, "20,000 candidates, halved and rounded up, are one after 15 trials");
 _Static_assert(SALWOERK_RECORD_ROOM == 212, "a map, seven numbers, the links, sixteen layers, the situation and alpha_cc");
 _Static_assert(SALWOERK_RECOMMENDED_ALPHA_CC == 100, "the recommended value of 3.1.6(1) is 1.0");

@@ -11,6 +11,7 @@ from ctypes import POINTER, c_int64, c_size_t, c_uint8, c_uint32, c_uint64
 
 import second
 from met import CASES, case_of, halved_depth, trial_turns
+from rearranged import compare_rearranged
 from samples import SIXTEEN, U32_MAX, Sample, UNDER_LOAD, all_samples, record, with_layer
 from second import LINK_TESTS, NO_LINKS, Layer, Links, Load, Section
 from tally import check_accuracy, check_accuracy_of_faces, check_stated
@@ -299,6 +300,12 @@ def compare_check(tally, rng, engine, sample):
         check_accuracy_of_faces(tally, rng, section, load, answer)
 
 
+def compare_sequence(tally, rng, engine, sample):
+    """The same bars in another sequence (02, request 2): every call that does not read or write a record."""
+    inside, outside = depths_for_moment(rng, sample.section)
+    compare_rearranged(tally, rng, engine, sample, (*inside.values(), *outside.values()))
+
+
 def compare_write(tally, rng, engine, sample):
     """Write a record into rooms around its length: every byte, guards too."""
     section, load = sample.section, sample.load
@@ -361,6 +368,7 @@ SAMPLE_COMPARISONS = (
     (("find_depth", "moment"), compare_depth),
     (("moment",), compare_moment),
     (("check",), compare_check),
+    (("find_depth", "moment", "check"), compare_sequence),
     (("write",), compare_write),
     (("read",), compare_read_back),
 )

@@ -10,15 +10,17 @@ beyond 10h: it is here to be read beside the papers.
 Run by itself it answers every row of "Reference cases" and prints 'ok' or
 'DIFFERS' for each; the expected values there are the papers', and the project's
 own for the section that no M suits, for the links, for the accidental situation,
-for αcc below 1, for most depths beyond 10h and for the trials of the halving rule,
-some of which are worked out by hand. Both searches answer beside the plain look
-at every depth, for random sections whose seed is printed.
+for αcc below 1, for most depths beyond 10h, for the trials of the halving rule, some
+of which are worked out by hand, and for the same bars in another sequence. Both
+searches answer beside the plain look at every depth, for random sections whose seed
+is printed.
 """
 
 import random
 import sys
 from fractions import Fraction
 from functools import lru_cache
+from itertools import permutations
 from math import ceil, floor  # exact on fractions, and floor is "toward minus infinity"
 from typing import NamedTuple, Optional
 
@@ -1937,6 +1939,36 @@ def halving_rows(rng):
     return [("the candidate that remains is the depth that a look at each one finds", found, plain)]
 
 
+THREE_BARS = ((50, 402), (400, 628), (450, 942))
+
+
+def rearranged_rows():
+    """Request 2 of 02: three layers in each of their six sequences, and two layers at fault in either."""
+    typed = [section_of(300, 500, 30, 500, bars) for bars in permutations(THREE_BARS)]
+    linked = [section._replace(links=links_of(101, 200)) for section in typed]
+    faulty = [section_of(300, 500, 30, 500, bars) for bars in permutations(((500, 628), (450, 0), (50, 402)))]
+
+    def answers(sections, call, *given):
+        """The answers that a call gives of the sections: one where the sequence makes no difference."""
+        return {call(section, *given) for section in sections}
+
+    report = Report(0, 1_101, 262_435_984, 627, 90_133_305, 86_314, 430, 1_570, 25, 212_428, (0, 0, 0, 0, 0, 0))
+    hanging = Report(0, 370, -10_564_661, 448, 166_242_811, 19_375, 147, 1_972, 0, 0, (1, 0, 1, 0, 0, 2))
+    pressed = Report(0, 5_171, 222_926_160, 5_786, 42_776_742, 0, 0, 0, 0, 0, (0, 2, 2, 2, 0, 2))
+    return [
+        ("three layers have six sequences", len(set(typed)), 6),
+        ("three layers, N 0: u and trials", answers(typed, find_depth, 0), {Depth(0, 1_101, 13)}),
+        ("three layers, N 3,000,000: u beyond 10h", answers(typed, find_depth, 3_000_000), {Depth(0, 5_442, 0)}),
+        ("three layers: Moment at 1,358", answers(typed, moment_at_depth, 1_358), {(0, 285_377_191)}),
+        ("three layers: Moment at 6,000", answers(typed, moment_at_depth, 6_000), {(0, 16_656_312)}),
+        ("three layers with links: Check", answers(linked, check, EXAMPLE_LOAD), {report}),
+        ("three layers, all in tension: Check", answers(typed, check, Load(-500_000, -20_000_000, 80_000)), {hanging}),
+        ("three layers, both faces beyond 10h: Check", answers(typed, check, Load(3_200_000, -20_000_000, 80_000)),
+         {pressed}),
+        ("a depth and an area at fault: 6 in every call", [refusals_of_calls(section) for section in faulty], [{6}] * 6),
+    ]
+
+
 def block_rows():
     """Ticket 5: 80 times the depth factor and 1,000 times the strength factor of each class."""
     above_50 = {55: (63, 975), 60: (62, 950), 70: (60, 900), 80: (58, 850), 90: (56, 800)}
@@ -1997,6 +2029,7 @@ def main():
             + both_record_rows() + strain_line_rows() + beyond_rows() + beyond_face_rows() + beyond_case_rows()
             + beyond_shape_rows() + beyond_class_rows() + search_rows(random.Random(seed))
             + trial_rows() + trial_refusal_rows() + trial_count_rows() + halving_rows(random.Random(seed))
+            + rearranged_rows()
             + block_rows() + refusal_rows() + sequence_rows())
     for name, computed, expected in rows:
         same = computed == expected

@@ -3,3 +3,4 @@ pub mod Whole
 pub mod Sizes
 pub mod Bounds
 pub mod Intervals
+pub mod Rearranged

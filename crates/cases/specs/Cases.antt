@@ -1,13 +1,14 @@
 -- Worked cases; that they hold, one computed test over the definitions, is `cases-hold`, `depths-hold` and `checks-hold` of the proofs.
 -- Every case of document 01 that is marked (P) has its rows here, in 01's order, those of Find a depth and of Check in lists of their own.
 -- Beside them stand the example of 01's list, the refusals 11 and 12 also as Check gives them, every class of the table with the letters
--- that follow from it, and both ends of the steel's range with what lies beyond; at the end, the cases of 02's requests 1, 3, 8, 10 and
--- 11, with numbers of the paper or of the second implementation. Assumes nothing.
+-- that follow from it, and both ends of the steel's range with what lies beyond; at the end, the cases of 02's requests 1, 3, 8, 10, 11,
+-- 12 and 2, with numbers of the paper or of the second implementation. Assumes nothing.
 use Prim.Native.Nat.{ℕ}
 use mathlib.Core.List.{List, [], _∷_, _++_}
 use lib.IntN.{ℤ, pos, negℤ}
 use lib.ListN.{replicate}
 use Rattle.materials.specs.declared.Grade.{Grade}
+use Rattle.section.specs.declared.Layer.{Layer}
 use Rattle.section.specs.declared.Section.{Section}
 use Rattle.section.specs.declared.Load.{Load}
 use Rattle.section.specs.Section.{noLayer, noLinks, linksWith}
@@ -112,6 +113,30 @@ low =
 
 abbrev high : Section
 high = one 300 2000 30 1950
+
+-- 300 by 500, fck 30, fyk 500, three layers in this sequence; then the same three from the top, from the bottom, and neither
+abbrev typed : Layer → Layer → Layer → Section
+typed k l m =
+    record {
+      width = pos 300;
+      height = pos 500;
+      grade = grade 30 500;
+      links = noLinks;
+      count = 3;
+      layers = k ∷ l ∷ m ∷ replicate 13 noLayer;
+    }
+
+abbrev bars : ℕ → ℕ → Layer
+bars depth area = record { depth = depth; area = area }
+
+abbrev fromTop : Section
+fromTop = typed (bars 50 402) (bars 400 628) (bars 450 942)
+
+abbrev fromBottom : Section
+fromBottom = typed (bars 450 942) (bars 400 628) (bars 50 402)
+
+abbrev fromMiddle : Section
+fromMiddle = typed (bars 400 628) (bars 50 402) (bars 450 942)
 
 -- A in a situation, with αcc, fyk and a count
 abbrev AWith : ℤ → ℤ → ℕ → ℕ → Section
@@ -360,6 +385,16 @@ cases =
     ∷ resists A 15000 0 (negℤ (pos 88200000))
     ∷ resists A 15001 13 (pos 0)
     ∷ resists A 0 13 (pos 0)
+    -- request 2: Moment at a depth of the same bars in three sequences, up to 10h and beyond it
+    ∷ resists fromTop 1358 0 (pos 285377191)
+    ∷ resists fromBottom 1358 0 (pos 285377191)
+    ∷ resists fromMiddle 1358 0 (pos 285377191)
+    ∷ resists fromTop 6000 0 (pos 16656312)
+    ∷ resists fromBottom 6000 0 (pos 16656312)
+    ∷ resists fromMiddle 6000 0 (pos 16656312)
+    -- request 2: 6 before 7, whichever of the two layers comes first
+    ∷ tests (typed (bars 500 628) (bars 450 0) (bars 50 402)) 6
+    ∷ tests (typed (bars 450 0) (bars 50 402) (bars 500 628)) 6
     ∷ []
 
 -- the rows of Find a depth: N, the refusal, u and the trials of the halving rule
@@ -406,7 +441,21 @@ depthRows =
     ∷ finds high (negℤ (pos 651690)) 0 1 14
     ∷ finds high (pos 9626250) 0 20000 15
     ∷ finds high (pos 9626251) 0 20001 0
+    -- request 2: the same bars in three sequences, up to 10h with the same trials, and beyond it
+    ∷ finds fromTop (pos 0) 0 1101 13
+    ∷ finds fromBottom (pos 0) 0 1101 13
+    ∷ finds fromMiddle (pos 0) 0 1101 13
+    ∷ finds fromTop (pos 3000000) 0 5442 0
+    ∷ finds fromBottom (pos 3000000) 0 5442 0
+    ∷ finds fromMiddle (pos 3000000) 0 5442 0
     ∷ []
+
+-- what is listed of the same bars in three sequences
+abbrev barsLine : Listed
+barsLine = linkedLine (face 1101 (pos 262435984)) (face 627 (pos 90133305)) 86314 430 1570 25 212428 (0 ∷ 0 ∷ 0 ∷ 0 ∷ 0 ∷ 0 ∷ [])
+
+abbrev tensionLine : Listed
+tensionLine = line (face 370 (negℤ (pos 10564661))) (face 448 (pos 166242811)) 19375 147 1972 1 0 1 0 0
 
 -- the rows of Check
 unfoldable pub checkRows : List CheckRow
@@ -503,4 +552,11 @@ checkRows =
     ∷ checks A (load (pos 3441001) (pos 0) (pos 0)) (refusedListed 12)
     ∷ checks A (load (pos 3441001) (negℤ (pos 1)) (pos 0)) (refusedListed 12)
     ∷ checks overA (load (pos 3441001) (pos 0) (pos 0)) (refusedListed 12)
+    -- request 2: the same bars in three sequences, with links
+    ∷ checks (withLinks (linksWith 101 200) fromTop) (load (pos 0) (pos 200000000) (pos 80000)) barsLine
+    ∷ checks (withLinks (linksWith 101 200) fromBottom) (load (pos 0) (pos 200000000) (pos 80000)) barsLine
+    ∷ checks (withLinks (linksWith 101 200) fromMiddle) (load (pos 0) (pos 200000000) (pos 80000)) barsLine
+    -- request 2: the bottom compressed and all layers in tension
+    ∷ checks fromTop (load (negℤ (pos 500000)) (negℤ (pos 20000000)) (pos 80000)) tensionLine
+    ∷ checks fromBottom (load (negℤ (pos 500000)) (negℤ (pos 20000000)) (pos 80000)) tensionLine
     ∷ []

@@ -2,7 +2,7 @@
 -- fails here. Assumes nothing.
 use Prim.Native.Nat.{ℕ, suc, _+_, _*_, _^_, _≤_, _<_}
 use mathlib.Core.Bool.{true, false}
-use mathlib.Core.List.{List, [], _++_}
+use mathlib.Core.List.{List, [], _++_, reverse, reverse-perm}
 use mathlib.Core.Path.{_≡_, refl}
 use lib.IntN.{ℤ, negℤ}
 use lib.Signed.{_<ℤ_}
@@ -10,6 +10,7 @@ use lib.ListN.{length}
 use Rattle.arith.specs.Fraction.{Ratio, Same, integer, _<ᶠ_}
 use Rattle.arith.specs.Greatest.{IsGreatest, IsLeast}
 use Rattle.arith.specs.Halving.{halved, keptUpTo}
+use Rattle.arith.specs.Rearranged.{Rearranged, times}
 use Rattle.section.specs.declared.Layer.{Layer}
 use Rattle.section.specs.declared.Links.{Links}
 use Rattle.section.specs.declared.Section.{Section}
@@ -19,6 +20,7 @@ use Rattle.section.specs.declared.Accepted.the-variants.{Ready}
 use Rattle.section.specs.Section.{layersOf, Counted, counted, absent, noLinks, countedLinks, linksOf}
 use Rattle.section.specs.Code.Usable.{Bounded, Usable}
 use Rattle.section.specs.Refusals.{accepted}
+use Rattle.section.specs.Rearranged.{SameBars, sameLayer}
 use Rattle.beyond.specs.Force as beyond
 use Rattle.beyond.specs.Depth.{reachedAt, leastReaching}
 use Rattle.beyond.specs.Code.Range.{Beyond}
@@ -31,11 +33,13 @@ use Rattle.equilibrium.specs.Depth.{depthUnder, trialsUnder, findDepth}
 use Rattle.equilibrium.specs.Moment.{momentAt}
 use Rattle.section.proofs.Turned.{usable-turned}
 use Rattle.section.proofs.Usable.{usable-by}
+use Rattle.section.proofs.Rearranged as sectionSequence
 use Rattle.equilibrium.proofs.Found as equilibrium
 use Rattle.equilibrium.proofs.DepthOne as depthOne
 use Rattle.equilibrium.proofs.Halving as halving
 use Rattle.equilibrium.proofs.Accuracy as accuracy
 use Rattle.equilibrium.proofs.Meeting as meeting
+use Rattle.equilibrium.proofs.Rearranged as equilibriumSequence
 use Rattle.shear.specs.SizeFactor.{K}
 use Rattle.shear.specs.Shear.{rTest, r, qTest, q}
 use Rattle.arith.proofs.Greatest.{first-only}
@@ -48,6 +52,7 @@ use Rattle.verdicts.specs.Verdicts.{first}
 use Rattle.clauses.specs.Check.{checkOf, OfReport}
 use Rattle.clauses.specs.Unreached.{Unreached}
 use Rattle.clauses.proofs.Laws as clauses
+use Rattle.clauses.proofs.Rearranged as clausesSequence
 use Rattle.record.specs.Map.{recordLength}
 use Rattle.record.specs.Layout.{mapOf, recordOf}
 use Rattle.record.specs.Write.{writtenOf, bufferOf}
@@ -87,6 +92,30 @@ find-ignores-links s k N = refl
 
 pub moment-ignores-links : (s : Section) (k : Links) (u : ℕ) → momentAt (withLinks k s) u ≡ momentAt s u
 moment-ignores-links s k u = refl
+
+-- ---- "any rearrangement of the layers of a section gives the same depth, moment, verdicts and refusal": 02's ticket 2, for every section, valid
+-- or not, and every load. Nothing is said of record bytes, "which follow the sequence".
+
+-- Find a depth: the whole answer, its trials too
+pub rearranged-find : (s t : Section) (N : ℤ) → SameBars (counted s) (counted t) → findDepth s N ≡ findDepth t N
+rearranged-find s t N same = equilibriumSequence.find-same same N
+
+-- Moment at a depth, for every u
+pub rearranged-moment : (s t : Section) (u : ℕ) → SameBars (counted s) (counted t) → momentAt s u ≡ momentAt t u
+rearranged-moment s t u same = equilibriumSequence.moment-same same u
+
+-- Check: the whole report, of both faces and of the links, which are among the other fields here
+pub rearranged-check : (s t : Section) (load : Load) → SameBars (counted s) (counted t) → linksOf s ≡ linksOf t → checkOf s load ≡ checkOf t load
+rearranged-check s t load same links = clausesSequence.check-same same load links
+
+-- what a rearrangement is: each layer stands as often in one list as in the other
+pub equal-bags : (xs ys : List Layer) → (Rearranged xs ys → (l : Layer) → times sameLayer l xs ≡ times sameLayer l ys)
+    × (((l : Layer) → times sameLayer l xs ≡ times sameLayer l ys) → Rearranged xs ys)
+equal-bags = sectionSequence.equal-bags
+
+-- "from the bottom or from the top"
+pub back-to-front : (ls : List Layer) → Rearranged (reverse ls) ls
+back-to-front = reverse-perm
 
 -- ---- of the layers of an accepted section, for either face
 

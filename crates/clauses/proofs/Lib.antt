@@ -1,3 +1,4 @@
 pub mod Checking
 pub mod Laws
 pub mod Compressed
+pub mod Rearranged

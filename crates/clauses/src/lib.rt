@@ -75,6 +75,7 @@ pub struct Listed {
 // face; verdict one asks both, five neither. Verdict six and the links' figures are of the face that M compresses too.
 // Refusals: the section tests, the load tests, those of the links, 11 N below the internal force at depth 1, 12 no u up to 30h reaches N, of
 // either face.
+// The sequence of the layers makes no difference: law `rearranged-check` (02's ticket 2).
 pub fn check_section(s: Section, l: Load) -> Checked
     ensures { λ r. ⌜ r ≡ checkOf s l ⌝ }
     ensures refusal { λ r. ⌜ refusalNumber r ≡ firstFailing (checkTests (counted s) (linksOf s) l) ⌝ }

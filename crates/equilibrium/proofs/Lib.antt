@@ -10,3 +10,4 @@ pub mod Meeting
 pub mod DepthOne
 pub mod Trials
 pub mod Pressed
+pub mod Rearranged

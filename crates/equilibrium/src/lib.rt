@@ -37,6 +37,7 @@ pub enum Moment {
 // above the internal force at 10h, the least u beyond it, up to 30h, at which the internal force is at least N. With a depth up to 10h comes the number of
 // trials of the halving rule; refusals and depths beyond 10h report 0 (`trialsFound`).
 // Refusals: the section tests, 8 N out of range, 11 N below the internal force at depth 1, 12 no u up to 30h reaches N.
+// The sequence of the layers makes no difference: law `rearranged-find` (02's ticket 2).
 pub fn find_depth(s: Section, n: i64) -> Depth
     ensures { λ r. ⌜ r ≡ findDepth s n ⌝ }
     ensures refusal { λ r. ⌜ depth.refusalNumber r ≡ firstFailing (findDepthTests (counted s) n) ⌝ }
@@ -64,6 +65,7 @@ pub fn find_depth(s: Section, n: i64) -> Depth
 
 // Moment at a depth, with the top compressed: the moment resistance at u tenths of a millimetre.
 // Refusals: the section tests, and 13 where u is not in 1 to 30h.
+// The sequence of the layers makes no difference: law `rearranged-moment`.
 pub fn moment_at(s: Section, u: u64) -> Moment
     ensures { λ r. ⌜ r ≡ momentAt s u ⌝ }
     ensures refusal { λ r. ⌜ moment.refusalNumber r ≡ firstFailing (momentTests (counted s) u) ⌝ }

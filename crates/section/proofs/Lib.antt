@@ -5,3 +5,4 @@ pub mod Turned
 pub mod InColumns
 pub mod Opened
 pub mod CountedLinks
+pub mod Rearranged

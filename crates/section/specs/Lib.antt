@@ -3,3 +3,4 @@ pub mod Load
 pub mod Refusals
 pub mod Code
 pub mod Turned
+pub mod Rearranged

@@ -1,1 +1,2 @@
 pub mod Layers
+pub mod Rearranged
