@@ -303,7 +303,7 @@ def compare_check(tally, rng, engine, sample):
 def compare_sequence(tally, rng, engine, sample):
     """The same bars in another sequence (02, request 2): every call that does not read or write a record."""
     inside, outside = depths_for_moment(rng, sample.section)
-    compare_rearranged(tally, rng, engine, sample, (*inside.values(), *outside.values()))
+    compare_rearranged(tally, rng, engine, sample, (*inside.values(), *outside.values()), hexadecimal)
 
 
 def compare_write(tally, rng, engine, sample):

@@ -10,24 +10,18 @@ sample itself is compared with second.py elsewhere.
 import second
 from met import REACHABLE
 
-
-def back_to_front(rng, layers):
-    """Typed from the bottom where they were typed from the top."""
-    return layers[::-1]
-
-
-def shuffled(rng, layers):
-    """Any sequence."""
-    return tuple(rng.sample(layers, len(layers)))
+DRAWS = 5  # of a sequence that is neither the one in hand nor that back to front
 
 
 def rearrangements(rng, section):
-    """The section with its counted layers in other sequences, by their names; one that changes nothing is left out."""
+    """The section with its counted layers back to front, and in a third sequence where one is drawn: (its name, it)."""
     layers, rest = second.counted(section), section.layers[section.count:]
-    for sequence in (back_to_front, shuffled):
-        moved = tuple(sequence(rng, layers))
+    back = layers[::-1]
+    drawn = (tuple(rng.sample(layers, len(layers))) for _ in range(DRAWS))
+    shuffled = next((moved for moved in drawn if moved not in (layers, back)), layers)
+    for name, moved in (("back to front", back), ("shuffled", shuffled)):
         if moved != layers:
-            yield sequence.__name__.replace("_", " "), section._replace(layers=moved + rest)
+            yield name, section._replace(layers=moved + rest)
 
 
 # --- what was met -------------------------------------------------------------
@@ -59,14 +53,20 @@ def moment_met(section, u, answer):
 
 
 def check_met(section, load, report):
-    """What Check answered of them: each face that can be compressed, with tension layers, with links, beyond 10h."""
+    """What Check answered of them: for either face compressed, links and tension layers; how many layers; both kinds of depth."""
     accepted = report.refusal == 0
     yield from refusals_met("Check", report.refusal)
     for name, m_holds in (("M < 0", load.m < 0), ("M >= 0", load.m >= 0)):
-        yield f"{name}", accepted and m_holds
-        yield f"{name} with tension layers", accepted and m_holds and report.area > 0
-        yield f"{name} with links", accepted and m_holds and report.cotangent > 0
-    yield "both faces beyond 10h", accepted and min(report.u, report.other_u) > second.greatest_depth(section)
+        yield f"{name}, with links", accepted and m_holds and report.cotangent > 0
+        yield f"{name}, two or more tension layers", (
+            accepted and m_holds and len(second.tension_layers(second.as_compressed(section, load.m), report.u)) > 1)
+    for number in (2, 3, second.PLACES):
+        yield f"{number} layers", accepted and section.count == number
+    beyond = [u > second.greatest_depth(section) for u in (report.u, report.other_u)]
+    yield "both faces up to 10h", accepted and beyond == [False, False]
+    yield "the face that M compresses alone beyond 10h", accepted and beyond == [True, False]
+    yield "the other face alone beyond 10h", accepted and beyond == [False, True]
+    yield "both faces beyond 10h", accepted and beyond == [True, True]
     for place, values in enumerate(REACHABLE, 1):
         for value in values:
             yield f"v{place} is {value}", accepted and report.verdicts[place - 1] == value
@@ -81,8 +81,11 @@ def note(tally, call, found):
         tally.coverage.note_call(f"{call} of rearranged layers: {name}", met)
 
 
-def compare_rearranged(tally, rng, engine, sample, depths):
-    """Find a depth, Moment at these depths and Check, of each rearrangement as of the section itself."""
+def compare_rearranged(tally, rng, engine, sample, depths, shown):
+    """Find a depth, Moment at these depths and Check, of each rearrangement as of the section itself.
+
+    What is shown of a section and a load where the answers differ is handed in.
+    """
     section, load = sample.section, sample.load
     asked = (
         ("Find a depth", (load.n,), engine.find_depth, lambda answer: find_met(section, answer)),
@@ -94,5 +97,5 @@ def compare_rearranged(tally, rng, engine, sample, depths):
         answer = ask(section, *arguments)
         note(tally, call, met(answer))
         for name, other in others:
-            tally.compare(f"{call}, layers {name}, {sample.label}", f"{section} {other} {arguments}",
+            tally.compare(f"{call} {arguments}, layers {name}, {sample.label}", shown(other, load),
                           answer, ask(other, *arguments))

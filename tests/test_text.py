@@ -759,7 +759,7 @@ class Examples(TextTest):
         self.assertEqual(self.answers("section-a.txt"), ["1 0 1358 257986051 86851 450 1500 0 0 0 0 0 2"])
 
     def test_several_has_the_refusals_that_its_remarks_say(self):
-        self.assertEqual([line.split()[1] for line in self.answers("several.txt")], ["0"] * 11 + ["3", "29", "12"])
+        self.assertEqual([line.split()[1] for line in self.answers("several.txt")], ["0"] * 12 + ["3", "29", "12"])
 
     def test_several_has_the_verdicts_that_its_remarks_say(self):
         three_and_six = [(line.split()[9], line.split()[12]) for line in self.answers("several.txt")]
@@ -779,6 +779,10 @@ class Examples(TextTest):
 
     def test_several_has_a_column_compressed_over_its_full_height(self):
         self.assertEqual(self.answers("several.txt")[9], "10 0 4313 169948995 0 0 0 0 2 2 2 0 2")
+
+    def test_several_has_the_first_beam_typed_from_the_bottom(self):
+        lines = self.answers("several.txt")
+        self.assertEqual(lines[11].split()[1:], lines[0].split()[1:])
 
     def test_the_export_of_a_spreadsheet(self):
         self.assertEqual(self.answers("beams.csv"), self.answers("several.txt")[:10])

@@ -4,7 +4,7 @@ use mathlib.Core.Path.{_≡_, refl, sym, ap, ap₂, subst, _∙_}
 use mathlib.Core.Bool.{Bool, true, false, cond, _&&_, Bool-set}
 use mathlib.Core.HLevel.{Σ-set}
 use mathlib.Core.List.{List, [], _∷_, foldr, map, count, countP-cons, Perm·foldr-eq, Perm·map, perm-iff-count}
-use mathlib.Core.Logic.{ite}
+use mathlib.Core.Logic.{_↔_, ite}
 use mathlib.Core.Nat as M
 use native.Mathlib.Nat.{ℕ-set, add-comm}
 use native.Mathlib.Bridge.{toℕ, fromℕ, toℕ-fromℕ, toℕ-+, from-hom₂}
@@ -25,7 +25,7 @@ module _ {A B : Type 0} (step : A → B → B) (g : List A → B) (one : (x : A)
 
 -- ---- sums
 
--- a way to add that takes two summands in either sequence
+-- a way to add that takes two summands in either sequence. (The library's law speaks of sets, as all types of numbers and tests are.)
 pub record AnySequence {B : Type 0} (add : B → B → B) : Type 0 where
   pub either-first : (a b r : B) → add a (add b r) ≡ add b (add a r)
   pub set : IsSet B
@@ -83,13 +83,15 @@ pub every-same : {A : Type 0} (p : A → Bool) {xs ys : List A} → Rearranged x
 every-same p same = sum-same tests p (every p) (λ x xs. refl) same
 
 -- ---- what is made of each element stands rearranged as they do
-pub map-same : {A C : Type 0} (f : A → C) (g : List A → List C) → g [] ≡ [] → ((x : A) (xs : List A) → g (x ∷ xs) ≡ f x ∷ g xs) → {xs ys : List A}
-    → Rearranged xs ys → Rearranged (g xs) (g ys)
-map-same {A} {C} f g none one {xs} {ys} same =
-    let put : A → List C → List C = λ x r. f x ∷ r in
-    let is : (zs : List A) → g zs ≡ map f zs
-    = λ zs. folded put g one zs ∙ ap (λ (r : List C). foldr put r zs) none ∙ sym (folded put (map f) (λ x xs. refl) zs) in
-    rw (is xs, is ys) (Perm·map f same)
+module _ {A C : Type 0} (f : A → C) (g : List A → List C) (none : g [] ≡ []) (one : (x : A) (xs : List A) → g (x ∷ xs) ≡ f x ∷ g xs) where
+  abbrev putting : A → List C → List C
+  putting x r = f x ∷ r
+
+  mapped : (xs : List A) → g xs ≡ map f xs
+  mapped xs = folded putting g one xs ∙ ap (λ (r : List C). foldr putting r xs) none ∙ sym (folded putting (map f) (λ x xs. refl) xs)
+
+  pub map-same : {xs ys : List A} → Rearranged xs ys → Rearranged (g xs) (g ys)
+  map-same {xs} {ys} same = rw (mapped xs, mapped ys) (Perm·map f same)
 
 -- ---- a rearrangement is an equal bag: each element stands as often in one list as in the other
 
@@ -120,8 +122,7 @@ module _ {A : Type 0} (same : A → A → Bool) (equal : (x y : A) → same x y 
       ∙ add-comm (fromℕ (count decide x ys)) (fromℕ here)
       ∙ ap₂ _+_ (one-more x y (same y x) refl) (count-is x ys)
 
-  pub bags-same : (xs ys : List A) → (Rearranged xs ys → (x : A) → times same x xs ≡ times same x ys)
-      × (((x : A) → times same x xs ≡ times same x ys) → Rearranged xs ys)
+  pub bags-same : (xs ys : List A) → Rearranged xs ys ↔ ((x : A) → times same x xs ≡ times same x ys)
   unfolding times
   bags-same xs ys = (
     λ p x. sum-same naturals (λ y. cond (same y x) 1 0) (times same x) (λ y ys. refl) p,

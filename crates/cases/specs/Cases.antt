@@ -129,10 +129,10 @@ typed k l m =
 abbrev bars : ℕ → ℕ → Layer
 bars depth area = record { depth = depth; area = area }
 
-abbrev fromTop : Section
+abbrev pub fromTop : Section
 fromTop = typed (bars 50 402) (bars 400 628) (bars 450 942)
 
-abbrev fromBottom : Section
+abbrev pub fromBottom : Section
 fromBottom = typed (bars 450 942) (bars 400 628) (bars 50 402)
 
 abbrev fromMiddle : Section

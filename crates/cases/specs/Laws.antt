@@ -3,6 +3,7 @@
 use Prim.Native.Nat.{ℕ, suc, _+_, _*_, _^_, _≤_, _<_}
 use mathlib.Core.Bool.{true, false}
 use mathlib.Core.List.{List, [], _++_, reverse, reverse-perm}
+use mathlib.Core.Logic.{_↔_}
 use mathlib.Core.Path.{_≡_, refl}
 use lib.IntN.{ℤ, negℤ}
 use lib.Signed.{_<ℤ_}
@@ -61,6 +62,7 @@ use Rattle.listing.specs.Records.{GoesOn, listOf}
 use Rattle.listing.specs.Program.{firstLine, tooLong, printedOf}
 use Rattle.listing.proofs.Laws as listing
 use Rattle.cases.specs.Case.{withLinks}
+use Rattle.cases.specs.Cases.{fromTop, fromBottom}
 
 -- ---- "Sections that differ only there count as the same": places beyond the counted layers; and numbers of absent links, for Check and
 -- for records
@@ -109,13 +111,20 @@ pub rearranged-check : (s t : Section) (load : Load) → SameBars (counted s) (c
 rearranged-check s t load same links = clausesSequence.check-same same load links
 
 -- what a rearrangement is: each layer stands as often in one list as in the other
-pub equal-bags : (xs ys : List Layer) → (Rearranged xs ys → (l : Layer) → times sameLayer l xs ≡ times sameLayer l ys)
-    × (((l : Layer) → times sameLayer l xs ≡ times sameLayer l ys) → Rearranged xs ys)
+pub equal-bags : (xs ys : List Layer) → Rearranged xs ys ↔ ((l : Layer) → times sameLayer l xs ≡ times sameLayer l ys)
 equal-bags = sectionSequence.equal-bags
 
--- "from the bottom or from the top"
+-- and all that the three laws ask of two sections: equal fields, and each counted layer as often in one as in the other
+pub same-bars : (s t : Section) → s .width ≡ t .width → s .height ≡ t .height → s .grade ≡ t .grade → s .count ≡ t .count
+    → ((l : Layer) → times sameLayer l (layersOf s) ≡ times sameLayer l (layersOf t)) → SameBars (counted s) (counted t)
+same-bars s t = sectionSequence.same-bars (counted s) (counted t)
+
+-- "from the bottom or from the top": layers back to front, and so the sections of the worked cases
 pub back-to-front : (ls : List Layer) → Rearranged (reverse ls) ls
 back-to-front = reverse-perm
+
+pub either-way : SameBars (counted fromBottom) (counted fromTop)
+either-way = record { width = refl; height = refl; grade = refl; count = refl; layers = back-to-front (layersOf fromTop) }
 
 -- ---- of the layers of an accepted section, for either face
 

@@ -32,34 +32,35 @@ compressed-same : (t : Bool) {xs ys xs′ ys′ : List Layer} → Rearranged xs 
 compressed-same true top bottom = top
 compressed-same false top bottom = bottom
 
-module _ (x : Design) (k : Links) (load : Load) where
-  -- what is reported of the face compressed
-  report-of : {xs ys : List Layer} → Rearranged xs ys → (face other : Face) (moment : Verdict)
-      → reportOf x xs k load face other moment ≡ reportOf x ys k load face other moment
-  unfolding reportOf
-  report-of same face other moment = rw (As-same same (face .u), dm-same same (face .u), area-same same)
+-- what is reported of the face compressed
+report-of : (x : Design) (k : Links) (load : Load) {xs ys : List Layer} → Rearranged xs ys → (face other : Face) (moment : Verdict)
+    → reportOf x xs k load face other moment ≡ reportOf x ys k load face other moment
+unfolding reportOf
+report-of x k load same face other moment = rw (As-same same (face .u), dm-same same (face .u), area-same same)
 
-  -- both faces, which see the layers as xs and xs′, or as their rearrangements
-  module _ {xs ys xs′ ys′ : List Layer} (top : Rearranged xs ys) (bottom : Rearranged xs′ ys′) where
-    compressed : Rearranged (ofCompressed (load .m) xs xs′) (ofCompressed (load .m) ys ys′)
-    compressed = compressed-same (leZ (pos 0) (load .m)) top bottom
+-- both faces, which see the layers as xs and xs′, or as their rearrangements
+module _ (x : Design) (load : Load) {xs ys xs′ ys′ : List Layer} (top : Rearranged xs ys) (bottom : Rearranged xs′ ys′) where
+  compressed : Rearranged (ofCompressed (load .m) xs xs′) (ofCompressed (load .m) ys ys′)
+  compressed = compressed-same (leZ (pos 0) (load .m)) top bottom
 
-    faces-asks : facesTests x xs xs′ load ≡ facesTests x ys ys′ load
-    faces-asks = rw (carries-same x compressed (load .n), reaches-same x top (load .n), reaches-same x bottom (load .n))
+  faces-asks : facesTests x xs xs′ load ≡ facesTests x ys ys′ load
+  faces-asks = rw (carries-same x compressed (load .n), reaches-same x top (load .n), reaches-same x bottom (load .n))
 
-    report-at : (t b : ℕ) → reportAt x k load xs xs′ t b ≡ reportAt x k load ys ys′ t b
-    unfolding reportAt
-    report-at t b = rw (resistance-same x top t, resistance-same x bottom b) (report-of compressed _ _ _)
+  report-at : (k : Links) (t b : ℕ) → reportAt x k load xs xs′ t b ≡ reportAt x k load ys ys′ t b
+  unfolding reportAt
+  report-at k t b = rw (resistance-same x top t, resistance-same x bottom b) (report-of x k load compressed _ _ _)
 
-    reported-same : reported xs xs′ k load x ≡ reported ys ys′ k load x
-    reported-same = rw (face-same x top (load .n), face-same x bottom (load .n)) (ap Done (report-at (faceDepth ys (load .n) x) (faceDepth ys′ (load .n) x)))
+  reported-same : (k : Links) → reported xs xs′ k load x ≡ reported ys ys′ k load x
+  reported-same k =
+      rw (face-same x top (load .n), face-same x bottom (load .n))
+      (ap Done (report-at k (faceDepth ys (load .n) x) (faceDepth ys′ (load .n) x)))
 
 module _ {c d : Counted} (same : SameBars c d) (load : Load) where
   abbrev asks : Links → Counted → Accepted → List ℕ
   asks k e a = loadLinkTests k load ++ facesTestsOf a (e .layers) load
 
   asks-same : (k : Links) (a : Accepted) → asks k c a ≡ asks k d a
-  asks-same k (section.Ready x) = ap (λ (ks : List ℕ). loadLinkTests k load ++ ks) (faces-asks x k load (same .layers) (turned-same (x .h) (same .layers)))
+  asks-same k (section.Ready x) = ap (λ (ks : List ℕ). loadLinkTests k load ++ ks) (faces-asks x load (same .layers) (turned-same (x .h) (same .layers)))
   asks-same k (section.Refused j) = refl
 
   -- with the same links
@@ -68,4 +69,4 @@ module _ {c d : Counted} (same : SameBars c d) (load : Load) where
   check-same {k = k} links =
       rw links
       (call-same same Refused (λ e x. reported (e .layers) (turned (x .h) (e .layers)) k load x) (asks k)
-      (λ x. reported-same x k load (same .layers) (turned-same (x .h) (same .layers))) (asks-same k))
+      (λ x. reported-same x load (same .layers) (turned-same (x .h) (same .layers)) k) (asks-same k))

@@ -21,7 +21,8 @@ use Rattle.section.proofs.Rearranged.{call-same}
 use Rattle.beyond.proofs.Rearranged as beyond
 use Rattle.equilibrium.specs.declared.Depth.the-variants.{Refused}
 use Rattle.equilibrium.specs.declared.Moment.the-variants as moment
-use Rattle.equilibrium.specs.Force.{at, concreteForce, layerForce, steelForce, internalForce, concreteMoment, layerMoment, steelResistance, momentResistance}
+use Rattle.equilibrium.specs.Force.{at, concreteForce, layerForce, steelForce, internalForce}
+use Rattle.equilibrium.specs.Force.{concreteMoment, layerMoment, steelResistance, momentResistance}
 use Rattle.equilibrium.specs.Refusals.{carries, upTo10h, reaches, faceTestsOf}
 use Rattle.equilibrium.specs.Depth.{trialsUnder, faceDepth, depthOf, depthIn}
 use Rattle.equilibrium.specs.Moment.{resistanceAt, momentIn}
@@ -31,7 +32,8 @@ use Rattle.equilibrium.specs.Moment.{resistanceAt, momentIn}
 module _ (x : Design) {xs ys : List Layer} (same : Rearranged xs ys) where
   force-same : (u : Ratio) → internalForce x xs u ≡ internalForce x ys u
   unfolding steelForce internalForce
-  force-same u = ap (λ (f : Fraction). concreteForce x u +ᶠ f) (sum-same fractions (λ l. layerForce x l u) (λ ls. steelForce x ls u) (λ l ls. refl) same)
+  force-same u =
+      ap (λ (f : Fraction). concreteForce x u +ᶠ f) (sum-same fractions (λ l. layerForce x l u) (λ ls. steelForce x ls u) (λ l ls. refl) same)
 
   up-to-same : (u : ℕ) → momentResistance x xs u ≡ momentResistance x ys u
   unfolding steelResistance momentResistance

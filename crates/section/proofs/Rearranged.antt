@@ -1,8 +1,9 @@
 -- The sequence of the layers makes no difference to the section tests, and a call that it makes none to further on answers the same.
 -- Assumes nothing.
 use Prim.Native.Nat.{ℕ, zero, suc}
-use mathlib.Core.List.{List, _++_}
 use mathlib.Core.Bool.{true}
+use mathlib.Core.List.{List, _++_}
+use mathlib.Core.Logic.{_↔_}
 use mathlib.Core.Path.{_≡_, refl, fun-ext, _∙_}
 use borrow.Author.Tests.{eqb-true, eq-eqb}
 use lib.Dec.{eqb}
@@ -24,8 +25,8 @@ use Rattle.section.specs.Rearranged.{SameBars, sameLayer}
 
 -- ---- a rearrangement has each layer as often
 
-same-layer : (k l : Layer) → sameLayer k l ≡ true → k ≡ l
-same-layer k l e =
+layers-equal : (k l : Layer) → sameLayer k l ≡ true → k ≡ l
+layers-equal k l e =
     let t = both-true (eqb (k .depth) (l .depth)) (eqb (k .area) (l .area)) e in
     same-numbers (eqb-true (k .depth) (l .depth) (t .0)) (eqb-true (k .area) (l .area) (t .1))
   where
@@ -35,9 +36,14 @@ same-layer k l e =
 layer-itself : (l : Layer) → sameLayer l l ≡ true
 layer-itself l = rw (eq-eqb (l .depth) (l .depth) refl, eq-eqb (l .area) (l .area) refl)
 
-pub equal-bags : (xs ys : List Layer) → (Rearranged xs ys → (l : Layer) → times sameLayer l xs ≡ times sameLayer l ys)
-    × (((l : Layer) → times sameLayer l xs ≡ times sameLayer l ys) → Rearranged xs ys)
-equal-bags = bags-same sameLayer same-layer layer-itself
+pub equal-bags : (xs ys : List Layer) → Rearranged xs ys ↔ ((l : Layer) → times sameLayer l xs ≡ times sameLayer l ys)
+equal-bags = bags-same sameLayer layers-equal layer-itself
+
+-- in fields and numbers alone: no more is asked of two sections
+pub same-bars : (c d : Counted) → c .width ≡ d .width → c .height ≡ d .height → c .grade ≡ d .grade → c .count ≡ d .count
+    → ((l : Layer) → times sameLayer l (c .layers) ≡ times sameLayer l (d .layers)) → SameBars c d
+same-bars c d width height grade count each =
+    record { width = width; height = height; grade = grade; count = count; layers = equal-bags (c .layers) (d .layers) .1 each }
 
 -- ---- what a call asks
 
