@@ -36,7 +36,7 @@ def main():
     streams.Arguments(COMMAND, __doc__).parse_args()
     try:
         FOLDER.mkdir(parents=True, exist_ok=True)
-        kit.run_kit(COMMAND, ["staticlib", "engine"], "proving and building the engine: 1 to 3 minutes, less where crates are proved already")
+        kit.run_kit(COMMAND, ["staticlib", "engine"], "proving and building the engine: 1 to 4 minutes, less where crates are proved already")
         shutil.copyfile(ARCHIVE, LIBRARY)
         link()
     except OSError as error:

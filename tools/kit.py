@@ -66,6 +66,6 @@ def list_program(command):
     with opened(TARGET / f"{command}.lock") as lock:
         fcntl.flock(lock, fcntl.LOCK_EX)  # one build at a time; it may be done when this one's turn comes
         if not is_current(PROGRAM):
-            run_kit(command, ["check", "check_list"], "proving and building the list program, once: 1 to 3 minutes")
+            run_kit(command, ["check", "check_list"], "proving and building the list program, once: 1 to 4 minutes")
             os.utime(PROGRAM)
     return PROGRAM
