@@ -48,17 +48,17 @@ letters fck fyk t e d l f g s = lettersWith 100 fck fyk t e d l f g s
 abbrev accidentalLetters : ℕ → ℕ → ℕ → ℕ → ℕ → ℕ → ℕ → ℕ → ℕ → Case
 accidentalLetters fck fyk t e d l f g s = accidentalLettersWith 100 fck fyk t e d l f g s
 
+-- bars at a depth, of an area; and a section of this grade, width and height, of whose sixteen places so many are counted
+abbrev bars : ℕ → ℕ → Layer
+bars depth area = record { depth = depth; area = area }
+
+abbrev layered : Grade → ℕ → ℕ → ℕ → List Layer → Section
+layered grade b h count places =
+    record { width = pos b; height = pos h; grade = grade; links = noLinks; count = count; layers = places }
+
 -- a section with one layer of 1,500 mm², or as many of its places as are counted
 abbrev oneIn : Grade → ℕ → ℕ → ℕ → ℕ → Section
-oneIn grade count b h d =
-    record {
-      width = pos b;
-      height = pos h;
-      grade = grade;
-      links = noLinks;
-      count = count;
-      layers = record { depth = d; area = 1500 } ∷ replicate 15 noLayer;
-    }
+oneIn grade count b h d = layered grade b h count (bars d 1500 ∷ replicate 15 noLayer)
 
 -- persistent, with fyk 500 and that layer
 abbrev one : ℕ → ℕ → ℕ → ℕ → Section
@@ -78,56 +78,21 @@ hump = oneIn (grade 30 600) 1 300 500 50
 
 -- 300 by 300, fck 30, fyk 500, three layers; and 50 by 500, fck 12, fyk 600, accidental, two layers
 abbrev column : Section
-column =
-    record {
-      width = pos 300;
-      height = pos 300;
-      grade = grade 30 500;
-      links = noLinks;
-      count = 3;
-      layers = record { depth = 50; area = 628 } ∷ record { depth = 150; area = 402 } ∷ record { depth = 250; area = 628 } ∷ replicate 13 noLayer;
-    }
+column = layered (grade 30 500) 300 300 3 (bars 50 628 ∷ bars 150 402 ∷ bars 250 628 ∷ replicate 13 noLayer)
 
 abbrev mixed : Section
-mixed =
-    record {
-      width = pos 50;
-      height = pos 500;
-      grade = gradeWith (pos 2) (pos 100) 12 600;
-      links = noLinks;
-      count = 2;
-      layers = record { depth = 150; area = 20000 } ∷ record { depth = 450; area = 100 } ∷ replicate 14 noLayer;
-    }
+mixed = layered (gradeWith (pos 2) (pos 100) 12 600) 50 500 2 (bars 150 20000 ∷ bars 450 100 ∷ replicate 14 noLayer)
 
 -- the least height, 75 by 50, fck 90, fyk 463, two layers; and the greatest, 300 by 2,000, fck 30, fyk 500, one layer of 1,500 at 1,950
 abbrev low : Section
-low =
-    record {
-      width = pos 75;
-      height = pos 50;
-      grade = grade 90 463;
-      links = noLinks;
-      count = 2;
-      layers = record { depth = 7; area = 37 } ∷ record { depth = 43; area = 111 } ∷ replicate 14 noLayer;
-    }
+low = layered (grade 90 463) 75 50 2 (bars 7 37 ∷ bars 43 111 ∷ replicate 14 noLayer)
 
 abbrev high : Section
 high = one 300 2000 30 1950
 
 -- 300 by 500, fck 30, fyk 500, three layers in this sequence; then the same three from the top, from the bottom, and neither
 abbrev typed : Layer → Layer → Layer → Section
-typed k l m =
-    record {
-      width = pos 300;
-      height = pos 500;
-      grade = grade 30 500;
-      links = noLinks;
-      count = 3;
-      layers = k ∷ l ∷ m ∷ replicate 13 noLayer;
-    }
-
-abbrev bars : ℕ → ℕ → Layer
-bars depth area = record { depth = depth; area = area }
+typed k l m = layered (grade 30 500) 300 500 3 (k ∷ l ∷ m ∷ replicate 13 noLayer)
 
 abbrev pub fromTop : Section
 fromTop = typed (bars 50 402) (bars 400 628) (bars 450 942)
