@@ -17,13 +17,19 @@ REDUCED_A = (REDUCED_A_BYTES, REDUCED_A_TEXT, REDUCED_A_LINE, 251_755_182, 86_85
 
 # Stands in for the kit: prints as rt does, and leaves a program that does what the test wants.
 RT = """#!/bin/sh
-echo "$*" >>called
+[ -d src ] || { echo 'rt: no crate is here'; exit 2; }
+echo "$* ${PWD##*/}" >>../../called
+echo 'rt: chose --jobs 2 for arith'
 echo 'fn arith::both: proved'
-echo 'rt: arith proved (8 s)'
+echo 'crate arith: modules loaded=0 checked=33'
+[ ! -f ../../broken ] || { echo 'logic=not-proved'; echo 'rt: the library arith did not build, so nothing above it was checked'; exit 1; }
 echo 'logic=proved functions=4'
-echo 'rt: check_list proved (22 s)'
-[ ! -f broken ] || { echo 'rt: FAILED: arith'; exit 1; }
-mkdir -p target/bin && cp program target/bin/check_list && chmod +x target/bin/check_list
+echo 'fn check_list::main: proved'
+echo 'crate check_list: modules loaded=33 checked=54'
+echo 'axioms libc: libc::read, libc::write (2 of the 128 declared)'
+echo 'logic=proved functions=9 axioms=2'
+echo 'rt: running out/check_list; to give it other input, run that file yourself'
+mkdir -p out && cp ../../program out/check_list && chmod +x out/check_list
 """
 
 
@@ -145,8 +151,8 @@ class Built(CommandTest):
         super().setUp()
         shutil.copytree(TOP / "tools", self.folder / "tools")
         shutil.copy(TOP / "check-list", self.folder)
-        (self.folder / "crates").mkdir()
-        self.file("crates.txt", "arith:\n")
+        (self.folder / "crates" / "check_list" / "src").mkdir(parents=True)
+        self.file("crates.txt", "arith:\ncheck_list: arith\n")
         self.file("program", "#!/bin/sh\necho list\n")
         for folder in ("bin", "plain"):
             (self.folder / folder).mkdir()
@@ -171,25 +177,44 @@ class Built(CommandTest):
         self.assertEqual((status, text), (0, b"list\n"))
         lines = message.splitlines()
         self.says(lines[0], "minutes", "check-list.log")
-        self.assertEqual(lines[1:3], ["check-list: arith proved (8 s)", "check-list: check_list proved (22 s)"])
+        for line, crate in zip(lines[1:3], ("arith", "check_list")):
+            self.assertRegex(line, rf"^check-list: {crate} proved \(\d+ s\)$")
         self.says(lines[3], "done in")
         self.assertEqual(len(lines), 4)
         self.assertIn("fn arith::both: proved", (self.folder / "target" / "check-list.log").read_text())
 
+    def later(self, *place):
+        """A time of this source after anything that was built."""
+        path = self.folder.joinpath(*place)
+        newer = (self.folder / "target" / "bin" / "check_list").stat().st_mtime + 10
+        os.utime(path, (newer, newer))
+
     def test_it_is_built_once_and_again_when_a_source_is_newer(self):
         self.list()
         self.assertEqual(self.list(), (0, b"list\n", ""))
-        newer = (self.folder / "target" / "bin" / "check_list").stat().st_mtime + 10
-        os.utime(self.folder / "crates.txt", (newer, newer))
-        self.assertIn("proved", self.list()[2])
-        self.assertEqual((self.folder / "called").read_text(), "check check_list\n" * 2)
+        for place in (("crates.txt",), ("crates", "check_list", "src")):
+            self.later(*place)
+            self.assertIn("proved", self.list()[2])
+        self.assertEqual((self.folder / "called").read_text(), "run check_list\n" * 3)
+
+    def test_what_the_kit_makes_is_no_source(self):
+        self.list()
+        self.later("crates", "check_list", "out", "check_list")
+        self.assertEqual(self.list(), (0, b"list\n", ""))
+
+    def test_a_program_that_rt_ci_left_is_taken(self):
+        (self.folder / "crates" / "check_list" / "out").mkdir()
+        self.executable("crates/check_list/out/check_list", "#!/bin/sh\necho left\n")
+        for _ in range(2):
+            self.assertEqual(self.list(kit=False), (0, b"left\n", ""))
 
     def test_a_failure_names_the_log(self):
         self.file("broken", "")
         status, text, message = self.list()
         self.assertEqual((status, text), (1, b""))
-        self.says(message, "rt check check_list", "failed", str(self.folder / "target" / "check-list.log"))
-        self.assertIn("rt: FAILED: arith", (self.folder / "target" / "check-list.log").read_text())
+        self.says(message, "'rt run' in crates/check_list failed", str(self.folder / "target" / "check-list.log"))
+        self.assertNotIn("proved", message.replace("proving", ""))
+        self.assertIn("rt: the library arith did not build", (self.folder / "target" / "check-list.log").read_text())
 
     def test_no_kit(self):
         status, text, message = self.list(kit=False)
@@ -203,11 +228,17 @@ class Built(CommandTest):
         self.says(message, "could not be started")
 
     def test_a_program_that_says_something_or_is_ended(self):
-        for program, said in (("echo list; echo it is cut >&2", "it is cut"), ("echo list; kill -9 $$", "signal 9"),
-                              ("echo list; exit 3", "")):
+        for program, said in (("echo list; echo it is cut >&2", "it is cut"), ("echo list; echo it is cut >&2; exit 1", "it is cut"),
+                              ("echo list; kill -9 $$", "signal 9"), ("echo list; exit 3", "")):
             with self.subTest(program=program):
-                shutil.rmtree(self.folder / "target", ignore_errors=True)
+                for made in ("target", "crates/check_list/out"):
+                    shutil.rmtree(self.folder / made, ignore_errors=True)
                 self.file("program", f"#!/bin/sh\n{program}\n")
                 status, text, message = self.list()
                 self.assertEqual((status, text), (1, b"list\n"))
                 self.says(message, said)
+
+    def test_a_program_whose_reader_stopped(self):
+        self.file("program", "#!/bin/sh\necho list\nexit 141\n")
+        self.list()
+        self.assertEqual(self.list(), (141, b"list\n", ""))

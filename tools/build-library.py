@@ -5,15 +5,15 @@ archive itself; gcc makes the shared library from it.
 """
 
 import os
-import shutil
 import subprocess
+import time
 
 import kit
 import streams
 from streams import Complaint
 
 COMMAND = "build-library"
-ARCHIVE = kit.TARGET / "staticlib" / "libengine.a"  # as the kit names it, after the crate
+ARCHIVE = kit.CRATES / "engine" / "out" / "libengine.a"  # as the kit names it, after the crate
 FOLDER = kit.TARGET / "lib"
 LIBRARY, SHARED = FOLDER / "libsalwoerk.a", FOLDER / "libsalwoerk.so"
 
@@ -35,9 +35,9 @@ def main():
     """Both libraries, and where they are."""
     streams.Arguments(COMMAND, __doc__).parse_args()
     try:
-        FOLDER.mkdir(parents=True, exist_ok=True)
-        kit.run_kit(COMMAND, ["staticlib", "engine"], "proving and building the engine: 1 to 4 minutes, less where crates are proved already")
-        shutil.copyfile(ARCHIVE, LIBRARY)
+        when = time.time()
+        kit.run_kit(COMMAND, "engine", "lib", "proving and building the engine, which takes minutes, less where crates are proved already")
+        kit.put(ARCHIVE, LIBRARY, when)
         link()
     except OSError as error:
         raise Complaint(f"{error.filename}: {error.strerror}") from None

@@ -101,7 +101,7 @@ def run_program(program, source, data):
 
 def status_of(ended, said):
     """0 where the list is whole. Whoever stops reading, as '| head -1' does, needs no message."""
-    if ended == -signal.SIGPIPE:
+    if ended in (-signal.SIGPIPE, streams.NO_READER):
         return streams.NO_READER
     if ended < 0:
         raise Complaint(f"the list program was ended by signal {-ended} ({signal.strsignal(-ended)}); the list is not whole")

@@ -11,7 +11,7 @@ use native.Mathlib.Nat.{ℕ_set, add_comm}
 use native.Mathlib.Bridge.{to_ℕ, from_ℕ, to_ℕ-from_ℕ, to_ℕ-+, from_hom₂}
 use native.Mathlib.Omega.{arith}
 use ghost.Sets.{retract_set}
-use lib.IntN.{ℤ, ◌+ℤ◌, ℤ_set}
+use lib.IntN.{◌+ℤ◌, ℤ_set}
 use Rattle.arith.specs.Every.{every}
 use Rattle.arith.specs.Fraction.{Fraction, ◌+ᶠ◌}
 use Rattle.arith.specs.Rearranged.{Rearranged, times}

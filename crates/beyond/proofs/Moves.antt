@@ -6,7 +6,7 @@ use mathlib.Core.Path.{◌≡◌, refl, ap}
 use native.Mathlib.Nat.{mul-le-mul_left}
 use native.Mathlib.Omega.{arith}
 use borrow.Author.Tests.{leb-true, leb-false}
-use lib.IntN.{ℤ, pos, ◌+ℤ◌}
+use lib.IntN.{pos}
 use lib.Signed.{◌≤ℤ◌, ≤ℤ_refl}
 use Rattle.arith.specs.Fraction.{Fraction, Proper, whole, ◌-ᶠ◌, ◌*ᶠ◌, ◌/ᶠ◌, ◌÷ᶠ◌, ◌≤ᶠ◌, held, floor}
 use Rattle.arith.proofs.Fraction.{tidy, Positive, proper, whole_mono, held_proper, bounds, held_mono, floor_mono}

@@ -10,7 +10,7 @@ ghost use Rattle.beyond.specs.Code.Whole.{block, concrete_newtons, under, rise, 
 use section::Design;
 
 // A layer's force, not rounded: p/q newtons.
-#[derive(Drop)]
+#[derive(Clone, Copy)]
 struct Share {
     p: u64,
     q: u64,
@@ -27,7 +27,7 @@ pub fn block_at(x: Design, u: u64) -> u64
 // The concrete's force, rounded down.
 pub fn concrete_force(x: Design, u: u64) -> u64
     requires { Bounded x × Beyond x u }
-    ensures result_value { pos result ≡ floor (concrete_force x u) }
+    ensures value { pos result ≡ floor (concrete_force x u) }
     ensures newtons { (result ≡ concrete_newtons x u) × (result ≤ 240000000) }
 {
     x.m.f * x.b * block_at(x, u) / 80000
@@ -70,7 +70,7 @@ fn share_at(x: Design, depth: u32, area: u32, u: u64) -> Share
 // A layer's force, rounded down.
 pub fn layer_force(x: Design, depth: u32, area: u32, u: u64) -> u64
     requires { Bounded x × (Beyond x u × LayerOk x.h (record { depth = depth; area = area })) }
-    ensures result_value { pos result ≡ floor (layer_force x (record { depth = depth; area = area }) u) }
+    ensures value { pos result ≡ floor (layer_force x (record { depth = depth; area = area }) u) }
     ensures newtons { (result ≡ layer_newtons x (record { depth = depth; area = area }) u) × (result ≤ 12000000) }
 {
     let t = share_at(x, depth, area, u);

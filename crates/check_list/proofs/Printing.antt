@@ -1,8 +1,8 @@
 -- A first line, a text after it in the same buffer, and what it has to be. Assumes nothing.
-use Prim.Native.Nat.{ℕ, zero, suc, ◌+◌, ◌-◌, ◌≤◌, ◌<◌}
+use Prim.Native.Nat.{ℕ, zero, suc, ◌+◌, ◌-◌, ◌≤◌}
 use mathlib.Core.Bool.{true, false}
 use mathlib.Core.List.{List, [], ◌∷◌, ◌++◌, append-nil}
-use mathlib.Core.Path.{◌≡◌, refl, sym, ap}
+use mathlib.Core.Path.{◌≡◌, refl, sym, ap, ap₂, subst, ◌∙◌}
 use native.Mathlib.Nat.{zero-add}
 use native.Mathlib.Omega.{arith}
 use borrow.Author.Tests.{le-leb}
@@ -10,9 +10,8 @@ use borrow.Rule.Slice.PartMut.{mid_of, put_mid}
 use lib.Dec.{leb}
 use lib.IntN.{ℤ, pos, negsuc}
 use lib.ListN.{length, take, drop, length-append, length-drop, drop_of_length-le}
-use lib.Seq.{take_all, drop-drop}
+use lib.Seq.{length-take-le, take_all, take_at, drop-drop}
 use lib.Signed.{lt_z}
-use Rattle.io.specs.Counts.{clamp_len}
 use Rattle.arith.proofs.Ring.{of_le}
 use Rattle.arith.proofs.Test.{clash, lt-false}
 use Rattle.record.specs.declared.Written.{Written}
@@ -23,12 +22,16 @@ use Rattle.listing.specs.Records.{list_of}
 use Rattle.listing.specs.Program.{first_line, too_long, printed_of}
 use Rattle.listing.proofs.Finishing.{then}
 use Rattle.listing.proofs.Laws.{printed_list, printed_26}
-use Rattle.check_list.specs.Input.{Beyond, Full}
+use Rattle.std.specs.Prelude.{Option, None, Some, IfSome, ◌≤ℤ◌}
+use Rattle.check_list.specs.Input.{Began, Beyond, Full, IsPrefixLen}
 
 -- a text at the start lies within the buffer
 pub within : {xs s ys : List ℕ} {n : ℕ} → Put xs 0 s ys n → n ≤ length ys
 unfolding placed
 within {xs} {s} p = omega (arith, p.end, ap length p.bytes, length-append s (drop (0 + length s) xs))
+
+pub prefix_len : (n : ℕ) (xs : List ℕ) → n ≤ length xs → IsPrefixLen n xs
+prefix_len n xs h = (h, sym (length-take-le n xs h))
 
 -- what is put at the start of the part from `at` on is put at that place of the whole
 part_put : (xs : List ℕ) (at : ℕ) (t : List ℕ) → at ≤ length xs
@@ -80,15 +83,18 @@ is_list hand rest (pos (suc k)) h few b = absurd (omega (arith, of_le (pos (suc 
 is_list hand rest (negsuc k) h few b = absurd b
 is_list hand rest (pos zero) h few none = rw (none, append-nil hand) (sym (printed_list hand few))
 
--- ---- a byte beyond the bytes in hand: where a read of more of them brought nothing, and where they fill the buffer
+-- ---- the bytes of the text in the buffer
 
-pub none_came : (z : ℤ) (room n k : ℕ) → clamp_len z room ≡ 0 → 0 < room → Full z n k
-none_came (pos zero) room n k e h = tt
-none_came (pos (suc i)) zero n k e h = absurd (omega arith)
-none_came (pos (suc i)) (suc room) n k e h = absurd (omega (arith, e))
-none_came (negsuc i) room n k e h = tt
+pub printed : {xs s ys : List ℕ} {n : ℕ} → Put xs 0 s ys n → take n ys ≡ s
+unfolding placed
+printed {xs} {s} {ys} {n} p =
+    ap₂ (λ (k : ℕ) (l : List ℕ). take k l) (p.end ∙ zero-add (length s)) p.bytes ∙ take_at s (drop (0 + length s) xs) (length s) refl
 
-pub was_full : (z : ℤ) (n room : ℕ) → room ≤ n → Full z n room
-was_full (pos zero) n room h = tt
-was_full (pos (suc k)) n room h = h
-was_full (negsuc k) n room h = tt
+-- What holds of the bytes of the text holds of the text for all that a reader had, where none of its reads failed.
+pub of_all : (had : Option (List ℕ)) (hand before after : List ℕ) (last : ℤ) (n : ℕ) (P : List ℕ → Type 0)
+    → IfSome had (λ xs. Began last hand xs) → pos 0 ≤ℤ last
+    → ((rest : List ℕ) → Beyond last rest → Put before 0 (printed_of (hand ++ rest)) after n)
+    → P (take n after) → IfSome had (λ xs. P (printed_of xs))
+of_all None hand before after last n P b h put p = tt
+of_all (Some xs) hand before after last n P b h put p =
+    subst P (printed (put b.0 (b.2 h)) ∙ sym (ap printed_of b.1)) p

@@ -1,41 +1,64 @@
 // The check list program: document 01, "The list". Records back to back on standard input, a line for each on standard
 // output. What could not be read or written is said on standard error.
-ghost use Rattle.std.specs.Prelude.{List, ◌++◌, ◌≡◌, ℕ, ◌≤◌, length};
-ghost use Rattle.io.specs.Counts.{IsPrefixLen};
+
+#![tactic(auto)]
+
+ghost use Rattle.std.specs.Prelude.{List, ◌++◌, ◌≡◌, ◌≢◌, ◌↔◌, ℕ, ◌≤◌, length, take, IsErrOf, IfSome, OnOk};
+ghost use Rattle.std.specs.IoError.{error_kind};
+ghost use Rattle.std.specs.Io.KnownBytes.{Appends, Keeps};
 ghost use Rattle.listing.specs.Code.Buffer.{Put};
 ghost use Rattle.listing.specs.Program.{first_line, printed_of};
-ghost use Rattle.check_list.specs.Input.{Beyond, Full};
+ghost use Rattle.check_list.specs.Input.{Began, Beyond, Full, IsPrefixLen};
 
-use libc::{STDERR_FILENO, STDIN_FILENO, STDOUT_FILENO};
+use std::io;
+use std::io::{ErrorKind, Read, Write};
+use std::process::ExitCode;
+
+// The status of a program that ended as whoever read its output stopped: 128 and SIGPIPE.
+const NO_READER: u8 = 141;
 
 // The bytes in hand, and what the last read answered: 0 at the end of the input, above 0 for a byte beyond them, −1 where it failed.
-#[derive(Drop)]
+#[derive(Clone, Copy)]
 struct Taken {
     count: usize,
     last: isize,
 }
 
-// Reads standard input until the buffer is full and a byte beyond it was asked for, the input ends, or a read fails.
-fn read_input(buffer: &mut [u8]) -> Taken
-    ensures { IsPrefixLen result.count buffer.new × Full result.last result.count (length buffer.new) }
+// Why the list is not there or not whole: a read failed, or a write did, or whoever reads it stopped.
+#[derive(Clone, Copy)]
+enum Failure {
+    NotRead,
+    NotWritten,
+    NoReader,
+}
+
+// Reads until the buffer is full and a byte beyond it was asked for, the input ends, or a read fails.
+fn read_input<R: Read>(reader: &mut R, buffer: &mut [u8]) -> Taken
+    ensures within { IsPrefixLen result.count buffer.new }
+    ensures full { Full result.last result.count (length buffer.new) }
+    ensures bytes { IfSome (R.remaining reader.old) (λ xs. Began result.last (take result.count buffer.new) xs) }
 {
     let mut n = 0usize;
     while n < buffer.len() {
-        let got = libc::read(STDIN_FILENO, &mut buffer[n..]);
-        let more = io::count(got, &buffer[n..]);
-        if more == 0 {
-            return Taken {
-                count: n,
-                last: got,
-            };
+        match reader.read(&mut buffer[n..]) {
+            Ok(0) => {
+                return Taken { count: n, last: 0 };
+            }
+            Ok(more) => n += more,
+            Err(_) => {
+                return Taken { count: n, last: -1 };
+            }
         }
-        n += more;
     }
     let mut byte = [0u8; 1];
-    let got = libc::read(STDIN_FILENO, &mut byte);
+    let last = match reader.read(&mut byte) {
+        Ok(0) => 0,
+        Ok(_) => 1,
+        Err(_) => -1,
+    };
     Taken {
         count: n,
-        last: got,
+        last: last,
     }
 }
 
@@ -69,12 +92,15 @@ fn put_first_line(text: &mut [u8]) -> usize
 // The whole text, for the bytes in hand and whatever follows them: the first line, then the list; or the line of refusal 26, where
 // a byte beyond them was read.
 fn put_text(hand: &[u8], last: isize, text: &mut [u8]) -> usize
-    requires { (length hand.now ≤ 65536) × (Full last (length hand.now) 65536 × (786522 ≤ length text.old)) }
+    requires few { length hand.now ≤ 65536 }
+    requires full { Full last (length hand.now) 65536 }
+    requires room { 786522 ≤ length text.old }
     ensures within { IsPrefixLen result text.new }
     ensures text { (rest : List ℕ) → Beyond last rest → Put text.old 0 (printed_of (hand.now ++ rest)) text.new result }
 {
     let at = put_first_line(text);
-    if last > 0 {
+    let is_beyond = last > 0;
+    if is_beyond {
         let written = listing::list_too_long(&mut text[at..]);
         at + written.length
     } else {
@@ -83,24 +109,68 @@ fn put_text(hand: &[u8], last: isize, text: &mut [u8]) -> usize
     }
 }
 
-fn main() {
+// Writes all of the bytes, or stops at the first write that takes nothing or fails.
+fn write_whole<W: Write>(writer: &mut W, bytes: &[u8]) -> io::Result<()>
+    ensures whole { OnOk result (Appends (W.contents writer.old) (W.contents writer.new) bytes.now) }
+    ensures part { (k : ℕ) × Appends (W.contents writer.old) (W.contents writer.new) (take k bytes.now) }
+{
+    let mut done = 0usize;
+    while done < bytes.len() {
+        let more = writer.write(&bytes[done..])?;
+        if more == 0 {
+            return Err(io::Error::from(ErrorKind::WriteZero));
+        }
+        done += more;
+    }
+    Ok(())
+}
+
+// Why a write failed: whoever reads what is written stopped, or something else.
+fn failed_write(e: io::Error) -> Failure
+    ensures stopped { result ≡ Failure.NoReader ↔ error_kind e ≡ ErrorKind.BrokenPipe }
+    ensures write { result ≢ Failure.NotRead }
+{
+    if e.kind() == ErrorKind::BrokenPipe {
+        Failure::NoReader
+    } else {
+        Failure::NotWritten
+    }
+}
+
+// The program, between a reader and a writer: the text for all that the reader has, and nothing where a read fails.
+fn print_list<R: Read, W: Write>(reader: &mut R, writer: &mut W) -> Result<(), Failure>
+    ensures whole { OnOk result (IfSome (R.remaining reader.old)
+        (λ xs. Appends (W.contents writer.old) (W.contents writer.new) (printed_of xs))) }
+    ensures part { IfSome (R.remaining reader.old)
+        (λ xs. (k : ℕ) × Appends (W.contents writer.old) (W.contents writer.new) (take k (printed_of xs))) }
+    ensures none { IsErrOf result Failure.NotRead → Keeps (W.contents writer.old) (W.contents writer.new) }
+{
     let mut input = [0u8; 65536];
-    let taken = read_input(&mut input);
+    let taken = read_input(reader, &mut input);
     let n = taken.count;
     let last = taken.last;
     if last < 0 {
-        io::write_all(
-            STDERR_FILENO,
-            b"check_list: standard input could not be read\n",
-        );
-        return;
+        return Err(Failure::NotRead);
     }
     let mut text = text_buffer();
     let m = put_text(&input[..n], last, &mut text);
-    if !io::write_all(STDOUT_FILENO, &text[..m]) {
-        io::write_all(
-            STDERR_FILENO,
-            b"check_list: the list could not be written whole\n",
-        );
+    match write_whole(writer, &text[..m]) {
+        Ok(()) => Ok(()),
+        Err(e) => Err(failed_write(e)),
+    }
+}
+
+fn main(rt: HostRuntime) -> ExitCode {
+    match print_list(&mut rt.stdin(), &mut rt.stdout()) {
+        Ok(()) => ExitCode::SUCCESS,
+        Err(Failure::NotRead) => {
+            let _ = eprintln!(rt; "check_list: standard input could not be read");
+            ExitCode::FAILURE
+        }
+        Err(Failure::NotWritten) => {
+            let _ = eprintln!(rt; "check_list: the list could not be written whole");
+            ExitCode::FAILURE
+        }
+        Err(Failure::NoReader) => ExitCode::from(NO_READER),
     }
 }

@@ -20,7 +20,8 @@ use Rattle.section.proofs.Rearranged.{turned_same, call_same}
 use Rattle.equilibrium.specs.Depth.{face_depth}
 use Rattle.equilibrium.proofs.Rearranged.{carries_same, reaches_same, face_same, resistance_same}
 use Rattle.verdicts.specs.declared.Verdict.{Verdict}
-use Rattle.verdicts.proofs.Rearranged.{area_same, As-same, dm_same}
+use Rattle.verdicts.proofs.Areas.{area_same}
+use Rattle.verdicts.proofs.Rearranged.{As-same, dm_same}
 use Rattle.clauses.specs.declared.Face.{Face}
 use Rattle.clauses.specs.declared.Checked.TheVariants.{Done, Refused}
 use Rattle.clauses.specs.Compressed.{of_compressed}

@@ -32,7 +32,7 @@ fn report_of(
     moment: Verdict,
 ) -> Report
     requires usable { Usable x count (layers_in count depths.now areas.now) }
-    requires steel_value { (steel ≡ area_sum (layers_in count depths.now areas.now)) × ((LinksOk k l × LoadOk l) × DepthRange x face.u) }
+    requires loaded { (steel ≡ area_sum (layers_in count depths.now areas.now)) × ((LinksOk k l × LoadOk l) × DepthRange x face.u) }
     ensures { result ≡ report_of x (layers_in count depths.now areas.now) k l face other moment }
 {
     let u = face.u;
@@ -121,7 +121,7 @@ fn check_faces<'a>(
     l: Load,
 ) -> Checked
     requires faces { Faces x count (layers_in count top.now areas.now) (layers_in count bottom.now areas.now) steel k l }
-    requires n_value { carries_at_one x steel l.n ≡ true }
+    requires carried { carries_at_one x steel l.n ≡ true }
     ensures { result ≡ check_faces x (layers_in count top.now areas.now) (layers_in count bottom.now areas.now)
         k l }
 {
@@ -146,7 +146,7 @@ pub fn check_accepted(
     l: Load,
 ) -> Checked
     requires usable { Usable x count (layers_in count depths.now areas.now) }
-    requires links_ok { (LinksOk k l × LoadOk l) × (length depths.now ≡ 16) }
+    requires loaded { (LinksOk k l × LoadOk l) × (length depths.now ≡ 16) }
     ensures { result ≡ check_faces x (layers_in count depths.now areas.now)
         (turned x.h (layers_in count depths.now areas.now)) k l }
 {

@@ -1,4 +1,7 @@
 // What the clauses of EN 1992-1-1 say of a section and its load: document 01, "Verdicts", and 02's tickets 1, 3 and 11.
+
+#![tactic(auto)]
+
 mod check;
 mod linked;
 pub mod numbers;
@@ -16,7 +19,7 @@ use section::{Accepted, Load, Section, columns, refusals};
 // A face under N: the depth of the neutral axis in tenths of a millimetre from that face, up to 10h or beyond it, and MRd in N·mm with it
 // compressed.
 #[repr(C)]
-#[derive(Drop)]
+#[derive(Clone, Copy)]
 pub struct Face {
     pub u: u64,
     pub mrd: i64,
@@ -24,8 +27,8 @@ pub struct Face {
 
 // What Check finds of an accepted section and load: depth of the neutral axis and MRd of the face that M compresses, the same of
 // the other face, VRd,c in newtons, dm and As in mm and mm², of the links the strut's cotangent in tenths and the resistance in newtons,
-// and the verdicts in the documents' sequence and numbers. An enum holds no array: here they stand by name, and in `Listed` as one array.
-#[derive(Drop)]
+// and the verdicts in the documents' sequence and numbers. Here they stand by name, and in `Listed` as one array.
+#[derive(Clone, Copy)]
 pub struct Report {
     pub u: u64,
     pub mrd: i64,
@@ -49,7 +52,7 @@ pub struct Report {
     pub links: u64,
 }
 
-#[derive(Drop)]
+#[derive(Clone, Copy)]
 pub enum Checked {
     Done(Report),
     Refused(u8),
@@ -58,7 +61,7 @@ pub enum Checked {
 // The documents' numbers for each case of the answer: the refusal, 0 for none, what is reported, and the verdicts in their
 // sequence, 0 pass, 1 fail, 2 not reached. A refusal has zeros and 2s.
 #[repr(C)]
-#[derive(Drop)]
+#[derive(Clone, Copy)]
 pub struct Listed {
     pub refusal: u64,
     pub u: u64,
@@ -76,7 +79,7 @@ pub struct Listed {
 // face; verdict one asks both, five neither. Verdict six and the links' figures are of the face that M compresses too.
 // Refusals: the section tests, the load tests, those of the links, 11 N below the internal force at depth 1, 12 no u up to 30h reaches N, of
 // either face.
-// The sequence of the layers makes no difference: law `rearranged-check` (02's ticket 2).
+// The sequence of the layers makes no difference: law `rearranged_check` (02's ticket 2).
 pub fn check_section(s: Section, l: Load) -> Checked
     ensures value { result ≡ check_of s l }
     ensures refusal { refusal_number result ≡ first_failing (check_tests (counted s) (links_of s) l) }

@@ -11,7 +11,7 @@ use section::{Design, Links};
 use verdicts::{Verdict, judge};
 
 // The strut's cotangent in tenths, the links' resistance in newtons, and verdict six.
-#[derive(Drop)]
+#[derive(Clone, Copy)]
 pub struct LinkReport {
     pub cotangent: u64,
     pub resistance: u64,

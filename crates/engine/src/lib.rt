@@ -1,4 +1,7 @@
 // The calls of document 01 for C: each answers document 01's numbers, a refusal with zeros. include/salwoerk.h describes them.
+
+#![tactic(auto)]
+
 ghost use Rattle.std.specs.Prelude.{◌≤◌, ◌≡◌};
 ghost use Rattle.equilibrium.specs.Depth.{find_depth};
 ghost use Rattle.equilibrium.specs.Moment.{moment_at};
@@ -19,7 +22,7 @@ use section::{Load, Section};
 
 // The refusal, 0 for none; the depth in tenths of a millimetre, up to 10h or beyond it; and the trials of the halving rule, 0 where refused and beyond 10h.
 #[repr(C)]
-#[derive(Drop)]
+#[derive(Clone, Copy)]
 pub struct DepthAnswer {
     pub refusal: u64,
     pub depth: u64,
@@ -28,7 +31,7 @@ pub struct DepthAnswer {
 
 // The refusal, 0 for none, and the moment resistance in N·mm.
 #[repr(C)]
-#[derive(Drop)]
+#[derive(Clone, Copy)]
 pub struct MomentAnswer {
     pub refusal: u64,
     pub moment: i64,

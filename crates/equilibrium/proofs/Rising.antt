@@ -4,7 +4,7 @@ use mathlib.Core.List.{List, [], ◌∷◌}
 use mathlib.Core.Path.{◌≡◌, refl}
 use native.Mathlib.Nat.{mul-le-mul_left}
 use native.Mathlib.Omega.{arith}
-use Rattle.arith.specs.Fraction.{Fraction, Proper, Ratio, whole, ratio, ◌-ᶠ◌, ◌*ᶠ◌, ◌/ᶠ◌, ◌÷ᶠ◌, ◌≤ᶠ◌, ◌<ᶠ◌}
+use Rattle.arith.specs.Fraction.{Fraction, Proper, Ratio, whole, ratio, ◌-ᶠ◌, ◌*ᶠ◌, ◌÷ᶠ◌, ◌≤ᶠ◌, ◌<ᶠ◌}
 use Rattle.arith.proofs.Fraction.{tidy, Positive, proper, +ᶠ-proper, ≤ᶠ-refl, <ᶠ→≤ᶠ, +ᶠ-mono, +ᶠ-strict, whole_mono, whole_strict, bounds}
 use Rattle.arith.proofs.Fraction.{/ᶠ-mono, /ᶠ-strict, held_proper, held_mono}
 use Rattle.section.specs.declared.Layer.{Layer}

@@ -1,4 +1,7 @@
 // A section of reinforced concrete in equilibrium: document 01, "Equilibrium", and 02's ticket 11 for depths beyond 10h.
+
+#![tactic(auto)]
+
 mod balance;
 mod guess;
 pub mod resistance;
@@ -18,7 +21,7 @@ use section::{Accepted, Section, columns, refusals};
 
 // The depth of the neutral axis, in tenths of a millimetre from the compressed face: up to 10h, with the number of trials that the halving rule of
 // document 02's ticket 12 takes to it; or beyond 10h, where the section is compressed over its full height; or why there is none.
-#[derive(Drop)]
+#[derive(Clone, Copy)]
 pub enum Depth {
     At(u64, u64),
     Beyond(u64),
@@ -26,7 +29,7 @@ pub enum Depth {
 }
 
 // A moment resistance in N·mm, or why there is none.
-#[derive(Drop)]
+#[derive(Clone, Copy)]
 pub enum Moment {
     Of(i64),
     Refused(u8),
@@ -36,7 +39,7 @@ pub enum Moment {
 // above the internal force at 10h, the least u beyond it, up to 30h, at which the internal force is at least N. With a depth up to 10h comes the number of
 // trials of the halving rule; refusals and depths beyond 10h report 0 (`trials_found`).
 // Refusals: the section tests, 8 N out of range, 11 N below the internal force at depth 1, 12 no u up to 30h reaches N.
-// The sequence of the layers makes no difference: law `rearranged-find` (02's ticket 2).
+// The sequence of the layers makes no difference: law `rearranged_find` (02's ticket 2).
 pub fn find_depth(s: Section, n: i64) -> Depth
     ensures value { result ≡ find_depth s n }
     ensures refusal { depth.refusal_number result ≡ first_failing (find_depth_tests (counted s) n) }
@@ -64,7 +67,7 @@ pub fn find_depth(s: Section, n: i64) -> Depth
 
 // Moment at a depth, with the top compressed: the moment resistance at u tenths of a millimetre.
 // Refusals: the section tests, and 13 where u is not in 1 to 30h.
-// The sequence of the layers makes no difference: law `rearranged-moment`.
+// The sequence of the layers makes no difference: law `rearranged_moment`.
 pub fn moment_at(s: Section, u: u64) -> Moment
     ensures value { result ≡ moment_at s u }
     ensures refusal { moment.refusal_number result ≡ first_failing (moment_tests (counted s) u) }

@@ -17,14 +17,14 @@ use super::resistance::layer_lift;
 use section::Design;
 
 // The lift of all layers at a depth and at the next tenth.
-#[derive(Drop)]
+#[derive(Clone, Copy)]
 struct Lifts {
     at: u64,
     next: u64,
 }
 
 // What the internal force exceeds N by, at a depth and at the next tenth, 80,000·u times.
-#[derive(Drop)]
+#[derive(Clone, Copy)]
 struct Pair {
     at: i64,
     next: i64,
@@ -117,7 +117,7 @@ fn by_pairs(
     n: i64,
 ) -> u64
     requires trial { Trial x count (layers_in count depths.now areas.now) steel n }
-    requires n_value { carries x (layers_in count depths.now areas.now) n 1 ≡ true }
+    requires carried { carries x (layers_in count depths.now areas.now) n 1 ≡ true }
     ensures { result ≡ greatest (carries x (layers_in count depths.now areas.now) n) (10 * x.h) }
 {
     let mut lo: u64 = 1;
@@ -166,7 +166,7 @@ pub fn depth_above_one(
     n: i64,
 ) -> u64
     requires trial { Trial x count (layers_in count depths.now areas.now) steel n }
-    requires n_value { carries_at_one x steel n ≡ true }
+    requires carried { carries_at_one x steel n ≡ true }
     ensures value { result ≡ face_depth (layers_in count depths.now areas.now) n x }
     ensures promised { 1 ≤ result → DepthPromise x (layers_in count depths.now areas.now) n result }
 {

@@ -1,4 +1,7 @@
 // Vertical links, 6.2.3 and 9.2.2: document 02, ticket 3. It takes plain numbers, so it rests on the arithmetic alone.
+
+#![tactic(auto)]
+
 ghost use Rattle.std.specs.Prelude.{◌≡◌, ◌≤◌};
 ghost use Rattle.links.specs.Links.{link_resistance, strut_resistance, strut_cotangent, truss_resistance, BestCotangent, spacing_ok, ratio_ok};
 ghost use Rattle.links.specs.Code.Ranges.{TrussBounds};
@@ -6,7 +9,7 @@ ghost use Rattle.links.specs.Code.Crossing.{Crossing, FirstWith};
 
 // All that these clauses ask: the section's b in mm, fck and fyk in N/mm², g and s in hundredths of N/mm², dm of the tension layers in mm,
 // and the links' area in mm² and spacing in mm.
-#[derive(Drop)]
+#[derive(Clone, Copy)]
 pub struct Truss {
     pub b: u64,
     pub fck: u64,
@@ -19,7 +22,7 @@ pub struct Truss {
 }
 
 // The strut: the cotangent of its angle in tenths, and the resistance there in newtons, the lesser of the links' and its own.
-#[derive(Drop)]
+#[derive(Clone, Copy)]
 pub struct Strut {
     pub cotangent: u64,
     pub resistance: u64,
@@ -62,7 +65,7 @@ fn crossing(x: Truss) -> u64
 // The first tenth at which the links resist as much as at `last`: where they resist little, several do.
 fn first_with(x: Truss, last: u64, most: u64) -> u64
     requires truss_bounds { TrussBounds x × ((10 ≤ last) × (last ≤ 25)) }
-    requires most_value { most ≡ link_resistance x last }
+    requires most_is { most ≡ link_resistance x last }
     ensures { FirstWith x last result }
 {
     let mut c = last;
@@ -79,7 +82,7 @@ fn first_with(x: Truss, last: u64, most: u64) -> u64
 // links and strut cross, if the strut resists more there than the links did before; else the first at which the links resist as much.
 pub fn best_strut(x: Truss) -> Strut
     requires { TrussBounds x }
-    ensures cotangent_value { (result.cotangent ≡ strut_cotangent x) × (result.resistance ≡ truss_resistance x) }
+    ensures answer { (result.cotangent ≡ strut_cotangent x) × (result.resistance ≡ truss_resistance x) }
     ensures best { BestCotangent x result.cotangent }
 {
     let last = crossing(x);

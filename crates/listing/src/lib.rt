@@ -1,4 +1,7 @@
 // The check list: document 01, "The list". From the bytes of an input the lines of its records, into a lent buffer.
+
+#![tactic(auto)]
+
 mod entries;
 mod line;
 mod records;

@@ -5,7 +5,7 @@ ghost use Rattle.listing.specs.Records.{ends, step_at};
 use record::Reading;
 
 // What is read of a record, and the place of the next one: the end of the input where the list ends.
-#[derive(Drop)]
+#[derive(Clone, Copy)]
 pub struct Step {
     pub reading: Reading,
     pub next: usize,

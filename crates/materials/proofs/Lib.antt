@@ -1,4 +1,5 @@
 pub mod Table
 pub mod Rows
 pub mod Strength
+pub mod Limits
 pub mod Promise

@@ -1,80 +1,40 @@
 -- The clauses of `look_up` that follow from its first: the refusal's number, the numbers with nothing rounded, and the promise, all that a
 -- part above may use of the materials. Assumes nothing.
 use Prim.Native.Nat.{ℕ, ◌≤◌}
-use mathlib.Core.Bool.{Bool, true, false, ◌&&◌}
+use mathlib.Core.Bool.{Bool, true, false}
 use mathlib.Core.List.{List, [], ◌∷◌}
 use mathlib.Core.Path.{◌≡◌, refl, sym, ◌∙◌}
 use native.Mathlib.Nat.{le_trans}
 use native.Mathlib.Omega.{arith}
-use lib.Dec.{T, leb, eqb, leb→le}
+use lib.Dec.{T, eqb, leb→le}
 use lib.IntN.{ℤ, pos, negsuc, nat_abs}
 use lib.ListN.{get_or}
 use Rattle.arith.specs.Chain.{test, first_failing}
-use Rattle.arith.specs.Every.{every}
-use Rattle.arith.specs.Fraction.{whole, ratio, ◌-ᶠ◌, ◌*ᶠ◌, ◌/ᶠ◌, ◌÷ᶠ◌, Same, is_same, floor, rounded_down}
+use Rattle.arith.specs.Fraction.{whole, ◌-ᶠ◌, ◌*ᶠ◌, ◌/ᶠ◌, ◌÷ᶠ◌, Same, is_same, floor, rounded_down}
 use Rattle.arith.specs.Integer.{in_range}
-use Rattle.arith.proofs.Computed.{all_between, between, nth}
+use Rattle.arith.proofs.Computed.{between, nth}
 use Rattle.arith.proofs.Fraction.{same_by}
 use Rattle.arith.proofs.Range.{Natural, natural}
 use Rattle.arith.proofs.Test.{and_yes, by_cond}
 use Rattle.materials.specs.declared.Answer.{Answer}
 use Rattle.materials.specs.declared.Class.{Class}
 use Rattle.materials.specs.declared.Grade.{Grade}
-use Rattle.materials.specs.declared.Materials.{Materials}
 use Rattle.materials.specs.declared.Row.{Row}
 use Rattle.materials.specs.declared.Row.TheVariants.{Found, Missing}
 use Rattle.materials.specs.Table.{table, find, row_of, in_table}
 use Rattle.materials.specs.Situation.{Situation, persistent, accidental, situation_of, long_term}
-use Rattle.materials.specs.Strength.{depth_factor, strength_factor, L, f, g, s, CRdc, crd}
+use Rattle.materials.specs.Strength.{depth_factor, L, CRdc, crd}
 use Rattle.materials.specs.Answer.{grade_tests, numbers, answered, materials_in, materials_of, opened, refusal_number, Exact, Bounds, Promised}
+use Rattle.materials.proofs.Limits.{in_both, limits, ordered, strongest, limited, always_limited, all-limited}
 use Rattle.materials.proofs.Strength.{s-rises}
-use Rattle.materials.proofs.Table.{passes, found}
+use Rattle.materials.proofs.Table.{found}
 
 -- ---- a test of both situations passes in the one that a number names
-
-abbrev in_both : (Situation → Bool) → Bool
-in_both p = p persistent && p accidental
 
 in_either : (p : Situation → Bool) → T (in_both p) → (i : ℕ) → T (p (situation_of i))
 in_either p t i = let both = and_yes (p persistent) (p accidental) t in by_cond (λ j. T (p j)) (eqb i 1) (λ e. both.0) (λ e. both.1)
 
--- ---- the bounds: one test over every class, every αcc and both situations, with the strongest steel; and the law that s rises with fyk
-
--- each as what is at most what, in the sequence of `Bounds`; that of fyk is its own test
-abbrev limits : Materials → List (ℕ × ℕ)
-limits m =
-    (m.fck, 90)
-    ∷ (m.t, 50)
-    ∷ (520, m.e)
-    ∷ (m.e, 700)
-    ∷ (1, m.d)
-    ∷ (m.d, 460)
-    ∷ (m.d, m.e)
-    ∷ (56, m.l)
-    ∷ (m.l, 64)
-    ∷ (1, m.f)
-    ∷ (m.f, 6000)
-    ∷ (m.g, 7500)
-    ∷ (m.s, 60000)
-    ∷ (m.crd, 15)
-    ∷ []
-
-abbrev ordered : ℕ × ℕ → Bool
-ordered pair = leb pair.0 pair.1
-
--- with fyk 600, at fck and its class, αcc in hundredths and a situation
-abbrev strongest : ℕ → Class → ℕ → Situation → Materials
-strongest k class x j = numbers (long_term x) j k 600 class
-
-abbrev limited : ℕ → Class → ℕ → Situation → Bool
-limited k class x j = every ordered (limits (strongest k class x j))
-
-abbrev always_limited : ℕ → Class → Bool
-always_limited k class = all_between 80 100 (λ x. in_both (limited k class x))
-
-all-limited : T (every (passes always_limited) table)
-unfolding whole ratio ◌-ᶠ◌ ◌*ᶠ◌ ◌/ᶠ◌ ◌÷ᶠ◌ floor rounded_down depth_factor strength_factor L f g s CRdc crd
-all-limited = tt
+-- ---- the bounds, from that test and from the law that s rises with fyk
 
 -- in situation i, of a class and an αcc that passed their tests,
 module _ (i k : ℕ) {class : Class} (row : find k table ≡ Found class) {alphacc : ℤ} (x : Natural 80 100 alphacc) where

@@ -1,5 +1,8 @@
 // Concrete and steel: document 01, "Materials", and 02's tickets 8 for the design situation, 10 for the long-term factor and 11 for D. This
 // is the part that is exchanged country by country: no formula above it has a partial factor or αcc.
+
+#![tactic(auto)]
+
 ghost use Rattle.std.specs.Prelude.{◌≤◌, true, ◌≡◌};
 ghost use Rattle.arith.specs.Chain.{first_failing};
 ghost use Rattle.arith.specs.Fraction.{Same, whole, ◌*ᶠ◌};
@@ -13,7 +16,7 @@ ghost use Rattle.materials.specs.Code.Factors.{scaled};
 // What a section asks of the materials: the concrete class and the steel by their strengths, in N/mm², the design situation of Table 2.1N,
 // 1 persistent or 2 accidental, and αcc of 3.1.6(1), the long-term factor, in hundredths; as a record carries them.
 #[repr(C)]
-#[derive(Drop)]
+#[derive(Clone, Copy)]
 pub struct Grade {
     pub fck: i64,
     pub fyk: i64,
@@ -23,7 +26,7 @@ pub struct Grade {
 
 // What the formulas use of the materials, by the letters of document 01.
 #[repr(C)]
-#[derive(Drop)]
+#[derive(Clone, Copy)]
 pub struct Materials {
     // the strengths that were asked for, in N/mm²
     pub fck: u64,
@@ -45,7 +48,7 @@ pub struct Materials {
 }
 
 // The materials, or the number of the first of their tests that fails.
-#[derive(Drop)]
+#[derive(Clone, Copy)]
 pub enum Answer {
     Known(Materials),
     Refused(u8),
@@ -53,18 +56,18 @@ pub enum Answer {
 
 // What Table 3.1 prints of a class, by the letters of document 01 and of 02's ticket 11, in this sequence: T, fctm in tenths of N/mm²; E and D,
 // 200,000 N/mm² times the strains εcu3 and εc3. Without names, so that a row is one line. A further column of that table is a further field.
-#[derive(Drop)]
+#[derive(Clone, Copy)]
 pub struct Class(u64, u64, u64);
 
 // The class, if fck is in the table.
-#[derive(Drop)]
+#[derive(Clone, Copy)]
 pub enum Row {
     Found(Class),
     Missing,
 }
 
 // The factors of the stress block, as the rows below have them.
-#[derive(Drop)]
+#[derive(Clone, Copy)]
 struct Block {
     // L: 80 times the depth factor λ
     l: u64,
@@ -73,7 +76,7 @@ struct Block {
 }
 
 // A class by its fck, and its factors: two structs, so that a row is one line.
-#[derive(Drop)]
+#[derive(Clone, Copy)]
 struct BlockRow(u64, Block);
 
 // The factors of 3.1.7(3), a row for each class (02's ticket 5); at the end of each row λ and η themselves.
@@ -95,7 +98,7 @@ const BLOCKS: [BlockRow; 14] = [
 ];
 
 // The partial factors of a design situation.
-#[derive(Drop)]
+#[derive(Clone, Copy)]
 struct PartialFactors {
     // γc, in tenths
     concrete: u64,
@@ -169,7 +172,7 @@ fn block_of(fck: u64) -> Block
 
 // The row of Table 2.1N: 1 persistent, 2 accidental. The clause `high` is for f, which is divided by 100 times γc: that product fits.
 fn partial_factors(situation: u64) -> PartialFactors
-    ensures result_value { scaled result ≡ situation_of situation }
+    ensures row { scaled result ≡ situation_of situation }
     ensures low { (1 ≤ result.concrete) × (1 ≤ result.steel) }
     ensures high { result.concrete ≤ 100 }
 {
@@ -182,8 +185,8 @@ fn partial_factors(situation: u64) -> PartialFactors
 
 // g: 100·αcc·fck/γc, with αcc in hundredths and γc in tenths.
 fn concrete_strength(fck: u64, alphacc: u64, j: PartialFactors) -> u64
-    requires fck_bound { (fck ≤ 90) × (alphacc ≤ 100) }
-    requires le_concrete { 1 ≤ j.concrete }
+    requires in_range { (fck ≤ 90) × (alphacc ≤ 100) }
+    requires factors { 1 ≤ j.concrete }
     ensures { result ≡ g (long_term alphacc) (scaled j) fck }
 {
     10 * alphacc * fck / j.concrete
@@ -191,9 +194,9 @@ fn concrete_strength(fck: u64, alphacc: u64, j: PartialFactors) -> u64
 
 // f: the strength factor, in thousandths, times the same, rounded down once.
 fn block_strength(fck: u64, eta: u64, alphacc: u64, j: PartialFactors) -> u64
-    requires fck_bound { (fck ≤ 90) × (alphacc ≤ 100) }
-    requires same { Same (whole eta) (whole 1000 *ᶠ strength_factor fck) }
-    requires le_concrete { (1 ≤ j.concrete) × (j.concrete ≤ 100) }
+    requires in_range { (fck ≤ 90) × (alphacc ≤ 100) }
+    requires eta_is { Same (whole eta) (whole 1000 *ᶠ strength_factor fck) }
+    requires factors { (1 ≤ j.concrete) × (j.concrete ≤ 100) }
     ensures { result ≡ f (long_term alphacc) (scaled j) fck }
 {
     eta * alphacc * fck / (100 * j.concrete)
@@ -217,9 +220,9 @@ fn shear_factor(j: PartialFactors) -> u64
 
 // All of them, of a class, a steel and an αcc that passed their tests, with the partial factors left open.
 fn design_values(fck: u64, fyk: u64, alphacc: u64, class: Class, j: PartialFactors) -> Materials
-    requires table_value { (find fck table ≡ Found class) × ((fyk ≤ 600) × (alphacc ≤ 100)) }
-    requires le_concrete { (1 ≤ j.concrete) × (1 ≤ j.steel) }
-    requires concrete_bound { j.concrete ≤ 100 }
+    requires class_found { (find fck table ≡ Found class) × ((fyk ≤ 600) × (alphacc ≤ 100)) }
+    requires factors { (1 ≤ j.concrete) × (1 ≤ j.steel) }
+    requires concrete_high { j.concrete ≤ 100 }
     ensures { result ≡ numbers (long_term alphacc) (scaled j) fck fyk class }
 {
     let block = block_of(fck);

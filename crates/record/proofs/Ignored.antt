@@ -80,7 +80,7 @@ module _ (xs ys : List ℕ) (m : ℕ) (h : record_length m ≤ length xs) where
           let r : at + 8 ≤ record_length m = room m (layer_bit j) (record_length m) (omega arith) e (le_refl (record_length m)) in
           let d = same at 4 (omega arith) in
           let a = same (at + 4) 4 (omega arith) in
-          λ i. record { depth = d i; area = a i } ∷ []
+          rw (d, a)
       go false e = refl
 
   section_same : section_of xs m ≡ section_of X m

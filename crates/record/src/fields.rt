@@ -4,7 +4,7 @@ ghost use Rattle.record.specs.Fields.{field_of, missing};
 
 // The fields that are signed numbers: document 01's b, h, fck, fyk, N, M and V, the design situation of 02's ticket 8 and the long-term
 // factor αcc of ticket 10.
-#[derive(Drop)]
+#[derive(Clone, Copy)]
 pub enum Number {
     Width,
     Height,
@@ -17,7 +17,7 @@ pub enum Number {
     LongTerm,
 }
 
-#[derive(Drop)]
+#[derive(Clone, Copy)]
 pub enum Field {
     // A number that must stand.
     Must(Number),

@@ -30,7 +30,7 @@ fn number(s: &[u8], map: u32, k: u32) -> i64
 }
 
 // Two numbers of four bytes each.
-#[derive(Drop)]
+#[derive(Clone, Copy)]
 struct Pair {
     first: u32,
     second: u32,
@@ -80,7 +80,7 @@ fn layer(s: &[u8], at: usize) -> Layer
 }
 
 // The layers of a record, with zeros beyond them.
-#[derive(Drop)]
+#[derive(Clone, Copy)]
 struct Layers {
     count: usize,
     places: [Layer; 16],

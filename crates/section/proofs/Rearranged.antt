@@ -43,7 +43,7 @@ equal_bags = bags_same same_layer layers_equal layer_itself
 pub same_bars : (c d : Counted) → c.width ≡ d.width → c.height ≡ d.height → c.grade ≡ d.grade → c.count ≡ d.count
     → ((l : Layer) → times same_layer l c.layers ≡ times same_layer l d.layers) → SameBars c d
 same_bars c d width height grade count each =
-    record { width = width; height = height; grade = grade; count = count; layers = (equal_bags c.layers d.layers).1 each }
+    record { width = rw width; height = rw height; grade = rw grade; count = rw count; layers = (equal_bags c.layers d.layers).1 each }
 
 -- ---- what a call asks
 

@@ -1,5 +1,8 @@
 // A section of reinforced concrete and its load, and the tests that they pass before anything is computed: document 01, "What the
 // engine covers" and "When a call is turned down"; the links by 02's ticket 3.
+
+#![tactic(auto)]
+
 pub mod columns;
 pub mod refusals;
 
@@ -7,7 +10,7 @@ use materials::{Grade, Materials};
 
 // A layer of steel: its depth from the top face in mm, and its area in mm².
 #[repr(C)]
-#[derive(Drop)]
+#[derive(Clone, Copy)]
 pub struct Layer {
     pub depth: u32,
     pub area: u32,
@@ -16,7 +19,7 @@ pub struct Layer {
 // Vertical links: the area of all their legs in mm², and their spacing along the member in mm. They are present or absent as a whole: 0 is
 // absent, any other number present. C is given no truth value. The numbers of absent links are never read.
 #[repr(C)]
-#[derive(Drop)]
+#[derive(Clone, Copy)]
 pub struct Links {
     pub present: u64,
     pub area: u32,
@@ -26,7 +29,7 @@ pub struct Links {
 // What a record can carry. Of `layers` only the first `count` places are read. They stand first in memory, where a copy of the
 // section by value is read back without a wait.
 #[repr(C)]
-#[derive(Drop)]
+#[derive(Clone, Copy)]
 pub struct Section {
     pub layers: [Layer; 16],
     pub width: i64,
@@ -38,7 +41,7 @@ pub struct Section {
 
 // N and V in newtons, N positive in compression; M in N·mm about mid-height, positive where it compresses the top.
 #[repr(C)]
-#[derive(Drop)]
+#[derive(Clone, Copy)]
 pub struct Load {
     pub n: i64,
     pub m: i64,
@@ -47,7 +50,7 @@ pub struct Load {
 
 // What the formulas use of an accepted section besides its layers: b, h and the materials.
 #[repr(C)]
-#[derive(Drop)]
+#[derive(Clone, Copy)]
 pub struct Design {
     pub b: u64,
     pub h: u64,
@@ -55,7 +58,7 @@ pub struct Design {
 }
 
 // A section that passed its tests, or the number of the first that it failed.
-#[derive(Drop)]
+#[derive(Clone, Copy)]
 pub enum Accepted {
     Ready(Design),
     Refused(u8),

@@ -20,7 +20,7 @@ pub fn layer_at(s: Section, i: usize) -> Layer
 }
 
 // Do all depths pass test 6, and all areas test 7?
-#[derive(Drop)]
+#[derive(Clone, Copy)]
 struct LayerTests {
     depths: bool,
     areas: bool,

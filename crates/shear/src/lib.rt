@@ -1,5 +1,8 @@
 // The shear resistance without shear reinforcement, 6.2.2(1): document 01, "Verdicts", the third, and 02's ticket 8. It takes plain
 // numbers, so it rests on the arithmetic alone.
+
+#![tactic(auto)]
+
 mod guess;
 mod power;
 mod size;

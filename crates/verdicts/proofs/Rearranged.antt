@@ -1,19 +1,15 @@
--- The sequence of the layers makes no difference to their areas or to the tension reinforcement. Assumes nothing.
+-- The sequence of the layers makes no difference to the tension reinforcement. Assumes nothing.
 use Prim.Native.Nat.{ℕ, ◌*◌, ◌/◌}
 use mathlib.Core.Bool.{cond}
 use mathlib.Core.List.{List}
-use mathlib.Core.Path.{◌≡◌, refl, sym, ap₂, ◌∙◌}
+use mathlib.Core.Path.{◌≡◌, sym, ap₂, ◌∙◌}
 use Rattle.arith.specs.Rearranged.{Rearranged}
 use Rattle.arith.proofs.Rearranged.{sum_same, naturals}
 use Rattle.section.specs.declared.Layer.{Layer}
-use Rattle.verdicts.specs.Tension.{in_tension, tension_layers, total, area_of, As, dm}
+use Rattle.verdicts.specs.Tension.{in_tension, tension_layers, total, As, dm}
 use Rattle.verdicts.proofs.Layers.{tension_step, mean_is}
 
 module _ {xs ys : List Layer} (same : Rearranged xs ys) where
-  pub area_same : area_of xs ≡ area_of ys
-  unfolding total
-  area_same = sum_same naturals (λ l. l.area) area_of (λ l ls. refl) same
-
   module _ (u : ℕ) where
     -- a sum over the tension layers, to which each other one adds 0
     tension_same : (f : Layer → ℕ) → total f (tension_layers u xs) ≡ total f (tension_layers u ys)

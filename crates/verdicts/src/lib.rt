@@ -1,5 +1,8 @@
 // Tension reinforcement, and verdicts one to five in document 01's sequence; the first as 02's ticket 1 has it. The sixth stands with the
 // links, in the clauses. It takes plain numbers and columns of layers.
+
+#![tactic(auto)]
+
 pub mod tension;
 
 ghost use Rattle.std.specs.Prelude.{◌≡◌, ◌≤◌};
@@ -8,7 +11,7 @@ ghost use Rattle.verdicts.specs.Verdicts.{judged, reached, first, second, third,
 ghost use Rattle.verdicts.specs.Code.Ranges.{LeastBounds};
 
 // What a clause says of the section: 0, 1 and 2 of document 01.
-#[derive(Drop)]
+#[derive(Clone, Copy)]
 pub enum Verdict {
     Pass,
     Fail,

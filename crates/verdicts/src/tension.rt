@@ -5,14 +5,14 @@ ghost use Rattle.verdicts.specs.Tension.{tension_layers, first_moment, As, dm};
 ghost use Rattle.verdicts.specs.Code.Ranges.{Counts};
 
 // The sums over the layers in tension: area and first moment.
-#[derive(Drop)]
+#[derive(Clone, Copy)]
 struct Sums {
     area: u64,
     moment: u64,
 }
 
 // As and dm.
-#[derive(Drop)]
+#[derive(Clone, Copy)]
 pub struct Reinforcement {
     pub area: u64,
     pub depth: u64,

@@ -1,0 +1,11 @@
+-- Down from `last`, as long as the links resist as much.
+use Prim.Native.Nat.{◌≤◌}
+use mathlib.Core.Path.{◌≡◌}
+use Rattle.links.specs.Links.{link_resistance}
+use Rattle.links.proofs.first_with.Given as goal
+
+abbrev pub invariant-loop-c : goal.invariant-loop-c
+invariant-loop-c l = (10 ≤ l.c) × ((l.c ≤ l.last) × (link_resistance l.x l.c ≡ link_resistance l.x l.last))
+
+abbrev pub decreases-loop-c : goal.decreases-loop-c
+decreases-loop-c l = l.c
