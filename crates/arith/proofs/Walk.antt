@@ -38,7 +38,8 @@ module _ (u : ℕ) where
     unfolding halved_from
     walk_on {width'} {above'} below fewer next = go w.left w.enough w.few w.leads
       where
-        go : (k : ℕ) → width ≤ k + 1 → n + k ≤ m → halved_from (kept_up_to u) k (state width above n) ≡ halved (kept_up_to u) m → Walk m width' above' (n + 1)
+        go : (k : ℕ) → width ≤ k + 1 → n + k ≤ m → halved_from (kept_up_to u) k (state width above n) ≡ halved (kept_up_to u) m
+            → Walk m width' above' (n + 1)
         go zero e f l = absurd (omega (arith, more, e))
         go (suc k) e f l =
             let one : halved_from (kept_up_to u) k (tried (kept_up_to u) (state width above n)) ≡ halved (kept_up_to u) m

@@ -2,7 +2,8 @@
 use mathlib.Core.Path.{◌≡◌}
 use lib.Dec.{T}
 use Rattle.arith.specs.Every.{every}
-use Rattle.arith.specs.Fraction.{whole, integer, ratio, ◌+ᶠ◌, ◌-ᶠ◌, ◌*ᶠ◌, ◌/ᶠ◌, ◌÷ᶠ◌, ◌+ʳ◌, reciprocal, at_most, is_same, held, floor, rounded_down}
+use Rattle.arith.specs.Fraction.{whole, integer, ratio, ◌+ᶠ◌, ◌-ᶠ◌, ◌*ᶠ◌, ◌/ᶠ◌, ◌÷ᶠ◌, ◌+ʳ◌}
+use Rattle.arith.specs.Fraction.{reciprocal, at_most, is_same, held, floor, rounded_down}
 use Rattle.arith.specs.Greatest.{greatest, first_greatest}
 use Rattle.arith.specs.Halving.{halved_from, halved}
 use Rattle.materials.specs.Strength.{depth_factor, strength_factor, L, f, g, s, CRdc, crd}
@@ -41,7 +42,8 @@ all_hold : T (every holds cases) × (T (every tries depth_rows) × T (every show
 unfolding cases depth_rows check_rows section_tests accepted depth_in moment_in check_in read_tests read_of
 all_hold = rw everywhere (
     unfold same_listed answers_by is_depth found_at reports
-    whole integer ratio ◌+ᶠ◌ ◌-ᶠ◌ ◌*ᶠ◌ ◌/ᶠ◌ ◌÷ᶠ◌ ◌+ʳ◌ reciprocal at_most is_same held floor rounded_down greatest first_greatest halved_from halved
+    whole integer ratio ◌+ᶠ◌ ◌-ᶠ◌ ◌*ᶠ◌ ◌/ᶠ◌ ◌÷ᶠ◌ ◌+ʳ◌ reciprocal at_most is_same held floor rounded_down
+    greatest first_greatest halved_from halved
     depth_factor strength_factor L f g s CRdc crd
     at concrete_force stress layer_force steel_force internal_force concrete_moment layer_moment steel_resistance moment_resistance
     beyond.block_depth beyond.concrete_force beyond.below_point beyond.stress beyond.layer_force beyond.steel_force beyond.internal_force

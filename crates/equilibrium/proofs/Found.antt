@@ -235,7 +235,8 @@ module _ (s : Section) (N : ℤ) where
 
   -- the other clauses of `find_depth` follow from its first
   pub find_clauses : {r : Depth} → r ≡ find_depth s N
-      → (r ≡ find_depth s N) × ((depth.refusal_number r ≡ first_failing (find_depth_tests (counted s) N)) × (AccurateDepth s N r × (depth.trials_found r ≤ 15)))
+      → (r ≡ find_depth s N)
+      × ((depth.refusal_number r ≡ first_failing (find_depth_tests (counted s) N)) × (AccurateDepth s N r × (depth.trials_found r ≤ 15)))
   find_clauses e = (e, (rw e find_numbered, (rw e find_accurate, rw e find_few)))
 
 -- ---- places beyond the count: sections that differ only there have one answer

@@ -7,7 +7,8 @@ use native.Mathlib.Numerals.{one-add}
 use native.Mathlib.Omega.{arith}
 use lib.ListN.{length}
 use lib.IntN.{ℤ, ◌+ℤ◌}
-use Rattle.arith.specs.Fraction.{Fraction, Proper, Ratio, whole, integer, ratio, ◌+ᶠ◌, ◌-ᶠ◌, ◌*ᶠ◌, ◌/ᶠ◌, left, right, ◌≤ᶠ◌, DifferAtMost, floor}
+use Rattle.arith.specs.Fraction.{Fraction, Proper, Ratio, whole, integer, ratio, ◌+ᶠ◌, ◌-ᶠ◌, ◌*ᶠ◌, ◌/ᶠ◌}
+use Rattle.arith.specs.Fraction.{left, right, ◌≤ᶠ◌, DifferAtMost, floor}
 use Rattle.arith.proofs.Fraction.{tidy, sides, exchange, Positive, proper, +ᶠ-proper, +ᶠ-mono, swap, differences, integer-add, floor_near}
 use Rattle.arith.proofs.Fraction.{differ_trans, differ_add, differ_same}
 use Rattle.section.specs.declared.Layer.{Layer}

@@ -9,7 +9,8 @@ use borrow.Author.Tests.{leb-true, leb-false}
 use lib.Dec.{leb}
 use lib.IntN.{ℤ, pos}
 use lib.Signed.{le_z}
-use Rattle.arith.specs.Fraction.{Fraction, Proper, whole, integer, ratio, ◌+ᶠ◌, ◌-ᶠ◌, ◌*ᶠ◌, ◌/ᶠ◌, ◌÷ᶠ◌, Same, left, right, at_most, held, floor}
+use Rattle.arith.specs.Fraction.{Fraction, Proper, whole, integer, ratio, ◌+ᶠ◌, ◌-ᶠ◌, ◌*ᶠ◌, ◌/ᶠ◌, ◌÷ᶠ◌}
+use Rattle.arith.specs.Fraction.{Same, left, right, at_most, held, floor}
 use Rattle.arith.specs.Floor.{floor_div}
 use Rattle.arith.proofs.Ring.{E, #, ◌⊕◌, ◌⊝◌, ◌⊗◌, val}
 use Rattle.arith.proofs.Fraction.{tidy, proper, +ᶠ-proper, *ᶠ-comm}

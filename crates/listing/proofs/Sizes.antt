@@ -170,7 +170,8 @@ module _ {x : Design} {count : ℕ} (ls : List Layer) (k : Links) (l : Load) (w 
 pub check_fits : (s : Section) (l : Load) → Fitting (listed (check_of s l))
 check_fits s l = go (accepted (counted s)) refl
   where
-    under : {x : Design} (k : ℕ) → first_failing (load_link_tests (links_of s) l) ≡ k → accepted (counted s) ≡ section.Ready x → Fitting (listed (check_of s l))
+    under : {x : Design} (k : ℕ) → first_failing (load_link_tests (links_of s) l) ≡ k → accepted (counted s) ≡ section.Ready x
+        → Fitting (listed (check_of s l))
     under zero none e = rw (← load_passed s l e none) (faces_fit (layers_of s) (links_of s) l (usable_by s e) (load-links-ok (links_of s) l none).load)
     under (suc k) some e = rw (← load_refused s l (suc k) e (sym some) (λ z. omega arith)) (refused_fits (suc k) (rw (← some) (load-small (links_of s) l)))
 

@@ -74,7 +74,8 @@ module _ (xs ys : List ℕ) (m : ℕ) (h : record_length m ≤ length xs) where
   layers_same zero g = refl
   layers_same (suc j) g = ap₂ (λ (a b : List Layer). a ++ b) (layers_same j (le_of_lt g)) (go (stands m (layer_bit j)) refl)
     where
-      go : (t : Bool) → stands m (layer_bit j) ≡ t → cond t (layer_at X (offset m (layer_bit j)) ∷ []) [] ≡ cond t (layer_at xs (offset m (layer_bit j)) ∷ []) []
+      go : (t : Bool) → stands m (layer_bit j) ≡ t
+          → cond t (layer_at X (offset m (layer_bit j)) ∷ []) [] ≡ cond t (layer_at xs (offset m (layer_bit j)) ∷ []) []
       go true e =
           let at = offset m (layer_bit j) in
           let r : at + 8 ≤ record_length m = room m (layer_bit j) (record_length m) (omega arith) e (le_refl (record_length m)) in

@@ -36,7 +36,8 @@ pub record Carried (s : Section) (l : Load) : Type 0 where
   pub link_spacing : (links_of s).spacing < 2 ^ 32
 
 -- a layer that passed has a depth and an area of four bytes, and so has a place beyond the layers
-four_bytes : (h : ℕ) → h ≤ 2000 → (ls : List Layer) → all (depth_ok h) ls ≡ true → all area_ok ls ≡ true → (j : ℕ) → FourBytes (get_or ls j no_layer)
+four_bytes : (h : ℕ) → h ≤ 2000 → (ls : List Layer) → all (depth_ok h) ls ≡ true → all area_ok ls ≡ true → (j : ℕ)
+    → FourBytes (get_or ls j no_layer)
 four_bytes h low [] d a j = record { depth = lit< tt; area = lit< tt }
 four_bytes h low (y ∷ ls) d a zero =
     let ok = layer-ok h y (both_true (depth_ok h y) (all (depth_ok h) ls) d).0 (both_true (area_ok y) (all area_ok ls) a).0 in

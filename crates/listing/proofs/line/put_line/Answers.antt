@@ -12,7 +12,8 @@ use Rattle.listing.specs.Text.{natural, integer}
 use Rattle.listing.specs.Line.{newline, spaced, line}
 use Rattle.listing.proofs.Finishing.{Left, begun, next_in, finished, has_room, same_text}
 use Rattle.listing.proofs.line.put_line.Goals as goal
-use Rattle.listing.proofs.line.put_line.Goals.{Start, After-put_natural-words, After-put_words-signed, After-put_signed_word-others, After-put_words-judged, After-put_words-end}
+use Rattle.listing.proofs.line.put_line.Goals.{Start, After-put_natural-words, After-put_words-signed, After-put_signed_word-others}
+use Rattle.listing.proofs.line.put_line.Goals.{After-put_words-judged, After-put_words-end}
 
 -- ---- the parts of a line
 before_it : (ws : List (List ℕ)) (end : List ℕ) → spaced ws [] ++ end ≡ spaced ws end
