@@ -1,4 +1,4 @@
--- Each need is its source expression.
+-- Each goal is its source expression.
 use Prim.Native.Nat.{◌*◌, ◌≤◌}
 use mathlib.Core.Path.{sym, ap, ◌∙◌}
 use native.Mathlib.Omega.{arith}

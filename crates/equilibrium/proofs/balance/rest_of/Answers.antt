@@ -1,4 +1,4 @@
--- Each need is its source expression.
+-- Each goal is its source expression.
 use Prim.Native.Nat.{◌*◌, ◌≤◌}
 use lib.IntN.{pos}
 use Rattle.arith.proofs.Machine.{M, nat, var, num, ◌⊞◌, ◌⊠◌, value}

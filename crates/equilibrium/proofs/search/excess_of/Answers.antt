@@ -1,4 +1,4 @@
--- Each need is its source expression.
+-- Each goal is its source expression.
 use Prim.Native.Nat.{ℕ, ◌*◌, ◌≤◌}
 use mathlib.Core.Path.{◌≡◌, ap, ◌∙◌}
 use native.Mathlib.Nat.{mul-le-mul}
