@@ -8,15 +8,15 @@ import second
 from running import TOP
 
 SOURCE = TOP / "crates" / "materials" / "src" / "lib.rt"
-ROW = re.compile(r" *BlockRow\((\d+), Block \{ l: (\d+), eta: (\d+) \}\), // λ (\d\.\d+), η (\d\.\d+)")
+ROW = re.compile(r" *\((\d+), Block \{ l: (\d+), eta: (\d+) \}\), // λ (\d\.\d+), η (\d\.\d+)")
 PARTIAL = re.compile(r"\n    concrete: (\d+), // γc (\d\.\d+)\n    steel: (\d+), // γs (\d\.\d+)\n")
 
 
 def constant(name, ends):
-    """What stands between the brackets of a constant."""
+    """What stands between the brackets of a constant or a static."""
     begins, ends = map(re.escape, ends)
     text = SOURCE.read_text(encoding="utf-8")
-    return re.search(rf"^const {name}: .*{begins}([^{ends}]*)^{ends};", text, re.MULTILINE).group(1)
+    return re.search(rf"^(?:const|static) {name}: .*{begins}([^{ends}]*)^{ends};", text, re.MULTILINE).group(1)
 
 
 def rows():

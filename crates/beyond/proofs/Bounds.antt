@@ -1,19 +1,28 @@
 -- The bound of an interval of depths, in naturals. Assumes nothing.
-use Prim.Native.Nat.{ℕ, ◌+◌}
+use Prim.Native.Nat.{ℕ, ◌+◌, ◌<◌}
 use mathlib.Core.Bool.{Bool, true, false, cond}
 use mathlib.Core.List.{List, [], ◌∷◌}
 use mathlib.Core.Path.{◌≡◌, refl}
+use native.Mathlib.Numerals.{add-one}
 use native.Mathlib.Omega.{arith}
 use lib.IntN.{pos, ◌+ℤ◌}
+use lib.ListN.{length, drop, get_or}
+use lib.Seq.{drop-cons}
 use Rattle.arith.proofs.Test.{both_true}
 use Rattle.section.specs.declared.Layer.{Layer}
 use Rattle.section.specs.declared.Design.{Design}
 use Rattle.section.specs.Section.{all, depth_ok, area_ok}
 use Rattle.section.proofs.OneLayer.{layer-ok}
 use Rattle.beyond.specs.Code.Range.{Beyond, Interval}
-use Rattle.beyond.specs.Code.Bound.{rises, steel_bound, bound}
-use Rattle.beyond.specs.Code.Whole.{concrete_newtons, steel_newtons}
+use Rattle.beyond.specs.Code.Bound.{rises, most, steel_bound, bound}
+use Rattle.beyond.specs.Code.Whole.{concrete_newtons, layer_newtons, steel_newtons}
 use Rattle.beyond.proofs.Whole.{concrete-whole, layer-whole}
+
+-- what the layers from i on give: the layer at i, and those after it
+pub next_newtons : (x : Design) (ls : List Layer) (i : ℕ) (d : Layer) (a b : ℕ) → i < length ls
+    → steel_newtons x (drop i ls) a b ≡ layer_newtons x (get_or ls i d) (most x (get_or ls i d).depth a b) + steel_newtons x (drop (i + 1) ls) a b
+unfolding steel_newtons
+next_newtons x ls i d a b h = rw (drop-cons ls i d h, add-one)
 
 module _ {x : Design} {count : ℕ} {ls : List Layer} {a b : ℕ} (v : Interval x count ls a b) where
   pub beyond_a : Beyond x a

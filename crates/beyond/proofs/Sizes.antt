@@ -17,9 +17,9 @@ use Rattle.section.specs.declared.Design.{Design}
 use Rattle.section.specs.Code.Usable.{Bounded, LayerOk}
 use Rattle.beyond.specs.Force.{layer_moment}
 use Rattle.beyond.specs.Code.Range.{Beyond}
-use Rattle.beyond.specs.Code.Whole.{under, rise, yields, held_share, free_share, share_of, layer_newtons}
+use Rattle.beyond.specs.Code.Whole.{concrete_newtons, under, rise, yields, held_share, free_share, share_of, layer_newtons}
 use Rattle.beyond.proofs.Moves.{under_is}
-use Rattle.beyond.proofs.Whole.{share-low, moment-whole}
+use Rattle.beyond.proofs.Whole.{concrete-whole, share-low, layer-whole, moment-whole}
 
 -- what stands below the line
 pub record Line (x : Design) (u : ℕ) : Type 0 where
@@ -46,6 +46,14 @@ rise_sizes {x} {d} {u} b w =
     let left : u - 10 * d ≤ 60000 = omega (arith, (line_sizes b w).depth) in
     let product = mul-le-mul b.materials.D-high b.materials.E-high in
     record { product = product; above = mul-le-mul product left }
+
+-- the concrete's force
+pub concrete-most : (x : Design) (u : ℕ) → Bounded x → concrete_newtons x u ≤ 240000000
+unfolding concrete_newtons
+concrete-most x u b =
+    let strength = mul-le-mul b.materials.f-high b.b-high in
+    let product = mul-le-mul {m₂ = 1600000} strength (omega (arith, b.h-high)) in
+    div-le_of_le-mul 80000 (le_trans product (lit≤ tt))
 
 -- where the stress is not held, the force is less than A·s/100
 less_than_held : (a s r o : ℕ) → 100 * r < s * o → a * s ≤ 1200000000 → a * r ≤ 12000000 * o
@@ -102,3 +110,10 @@ module _ {x : Design} {l : Layer} {u : ℕ} (b : Bounded x) (d : Beyond x u) (ok
       rw (moment-whole x l b d ok)
       (floor_within _ (2 * (share_of x l u).q) 12000000000 (omega (arith, share-low x l b d ok))
       (up_to (mul_in (lit (pos (share_of x l u).p)) arm_in) (omega (arith, share-ratio))))
+
+-- what the code of a force rests on
+pub ruleset concrete_facts = (concrete-whole, concrete-most)
+
+pub ruleset layer_facts = (share-low, layer-whole, layer-most)
+
+pub ruleset share_facts = (share-low, share-above, share_beneath)

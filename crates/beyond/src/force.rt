@@ -1,5 +1,6 @@
 // What the parts of a section carry at a whole depth beyond 10h: document 02, ticket 11. No stress is below 0 there, so a layer's force is a
-// natural over a natural; with the yielding and the free arm apart no product is above 64 bits.
+// natural over a natural; with the yielding and the free arm apart no product is above 64 bits. Each `as` is proved not to lose; i64::try_from
+// would add an exit that never comes.
 ghost use Rattle.std.specs.Prelude.{◌≤◌, ◌≡◌, pos};
 ghost use Rattle.arith.specs.Fraction.{floor};
 ghost use Rattle.section.specs.Code.Usable.{Bounded, LayerOk};
@@ -7,7 +8,7 @@ ghost use Rattle.beyond.specs.Force.{concrete_force, layer_force, layer_moment};
 ghost use Rattle.beyond.specs.Code.Range.{Beyond};
 ghost use Rattle.beyond.specs.Code.Whole.{block, concrete_newtons, under, rise, share_of, layer_newtons};
 
-use section::Design;
+use section::{Design, Layer};
 
 // A layer's force, not rounded: p/q newtons.
 #[derive(Clone, Copy)]
@@ -16,73 +17,92 @@ struct Share {
     q: u64,
 }
 
-// The block's depth in 1/800 mm, at most that of the section: at every depth up to 30h, up to 10h too.
-pub fn block_at(x: Design, u: u64) -> u64
-    requires { Bounded x × (u ≤ 60000) }
-    ensures { result ≡ block x u }
+// The block's depth in 1/800 mm, at most that of the section: at every depth up to 30h, up to 10h too. (Of a bare
+// design: `Strained` lies beyond 10h.)
+pub fn block_at(x: &Design, u: u64) -> u64
+    requires { Bounded x.now × (u ≤ 60000) }
+    ensures { result ≡ block x.now u }
 {
-    arith::lesser(x.m.l * u, 800 * x.h)
+    (x.m.l * u).min(800 * x.h)
 }
 
-// The concrete's force, rounded down.
-pub fn concrete_force(x: Design, u: u64) -> u64
-    requires { Bounded x × Beyond x u }
-    ensures value { pos result ≡ floor (concrete_force x u) }
-    ensures newtons { (result ≡ concrete_newtons x u) × (result ≤ 240000000) }
-{
-    x.m.f * x.b * block_at(x, u) / 80000
+// A section that is compressed over its full height: its neutral axis lies at the depth u, beyond 10h and up to 30h.
+#[derive(Clone, Copy)]
+pub struct Strained<'a> {
+    pub design: &'a Design,
+    pub u: u64,
+    pub ghost bounded: { Bounded design.now },
+    pub ghost beyond: { Beyond design.now u },
 }
 
-// D·E·(u − 10d), above the line.
-fn rise_at(x: Design, u: u64, depth: u32) -> u64
-    requires { Bounded x × (Beyond x u × (depth ≤ x.h)) }
-    ensures { (result ≡ rise x depth u) × (result ≤ 19320000000) }
-{
-    x.m.d * x.m.e * (u - 10 * depth as u64)
-}
-
-// E·u − 10·(E − D)·h, below it.
-fn under_at(x: Design, u: u64) -> u64
-    requires { Bounded x × Beyond x u }
-    ensures { (result ≡ under x u) × ((1 ≤ result) × (result ≤ 42000000)) }
-{
-    x.m.e * u - 10 * (x.m.e - x.m.d) * x.h
-}
-
-fn share_at(x: Design, depth: u32, area: u32, u: u64) -> Share
-    requires { Bounded x × (Beyond x u × LayerOk x.h (record { depth = depth; area = area })) }
-    ensures { result ≡ share_of x (record { depth = depth; area = area }) u }
-{
-    let p = rise_at(x, u, depth);
-    let q = under_at(x, u);
-    if x.m.s * q <= 100 * p {
-        return Share {
-            p: area as u64 * x.m.s,
-            q: 100,
-        };
+impl Strained<'_> {
+    // The concrete's force, rounded down.
+    #[tactic(auto, using(crate::proofs::Sizes::concrete_facts), unfolding(crate::specs::Code::Whole::concrete_newtons))]
+    pub fn concrete_force(&self) -> u64
+        ensures value { pos result ≡ floor (concrete_force self.now.design.now self.now.u) }
+        ensures newtons { (result ≡ concrete_newtons self.now.design.now self.now.u) × (result ≤ 240000000) }
+    {
+        let x = self.design;
+        x.m.f * x.b * block_at(x, self.u) / 80000
     }
-    Share {
-        p: area as u64 * p,
-        q: q,
+
+    // D·E·(u − 10d), above the line.
+    fn rise(&self, depth: u32) -> u64
+        requires { depth ≤ self.now.design.now.h }
+        ensures { (result ≡ rise self.now.design.now depth self.now.u) × (result ≤ 19320000000) }
+    {
+        let x = self.design;
+        x.m.d * x.m.e * (self.u - 10 * u64::from(depth))
     }
-}
 
-// A layer's force, rounded down.
-pub fn layer_force(x: Design, depth: u32, area: u32, u: u64) -> u64
-    requires { Bounded x × (Beyond x u × LayerOk x.h (record { depth = depth; area = area })) }
-    ensures value { pos result ≡ floor (layer_force x (record { depth = depth; area = area }) u) }
-    ensures newtons { (result ≡ layer_newtons x (record { depth = depth; area = area }) u) × (result ≤ 12000000) }
-{
-    let t = share_at(x, depth, area, u);
-    t.p / t.q
-}
+    // E·u − 10·(E − D)·h, below it.
+    #[tactic(auto, using(crate::proofs::Sizes::line_sizes))]
+    fn under(&self) -> u64
+        ensures { (result ≡ under self.now.design.now self.now.u) × ((1 ≤ result) × (result ≤ 42000000)) }
+    {
+        let x = self.design;
+        x.m.e * self.u - 10 * (x.m.e - x.m.d) * x.h
+    }
 
-// A layer's moment, from its unrounded force, rounded down by itself.
-pub fn layer_moment(x: Design, depth: u32, area: u32, u: u64) -> i64
-    requires { Bounded x × (Beyond x u × LayerOk x.h (record { depth = depth; area = area })) }
-    ensures { result ≡ floor (layer_moment x (record { depth = depth; area = area }) u) }
-{
-    let t = share_at(x, depth, area, u);
-    let arm = x.h as i64 - 2 * depth as i64;
-    arith::floor_div(t.p as i64 * arm, 2 * t.q as i64)
+    // LayerOk stays a clause, here and below: a struct that kept it would hold the layer and h, be made anew for each layer, and be no plainer.
+    #[tactic(auto, using(crate::proofs::Whole::held_arm, crate::proofs::Whole::free_arm))]
+    fn share(&self, l: &Layer) -> Share
+        requires { LayerOk self.now.design.now.h l.now }
+        ensures { result ≡ share_of self.now.design.now l.now self.now.u }
+    {
+        let p = self.rise(l.depth);
+        let q = self.under();
+        let s = self.design.m.s;
+        let area = u64::from(l.area);
+        if s * q <= 100 * p {
+            Share {
+                p: area * s,
+                q: 100,
+            }
+        } else {
+            Share { p: area * p, q }
+        }
+    }
+
+    // A layer's force, rounded down.
+    #[tactic(auto, using(crate::proofs::Sizes::layer_facts), unfolding(crate::specs::Code::Whole::layer_newtons))]
+    pub fn layer_force(&self, l: &Layer) -> u64
+        requires { LayerOk self.now.design.now.h l.now }
+        ensures value { pos result ≡ floor (layer_force self.now.design.now l.now self.now.u) }
+        ensures newtons { (result ≡ layer_newtons self.now.design.now l.now self.now.u) × (result ≤ 12000000) }
+    {
+        let t = self.share(l);
+        t.p / t.q
+    }
+
+    // A layer's moment, from its unrounded force, rounded down by itself.
+    #[tactic(auto, using(crate::proofs::Sizes::share_facts))]
+    pub fn layer_moment(&self, l: &Layer) -> i64
+        requires { LayerOk self.now.design.now.h l.now }
+        ensures { result ≡ floor (layer_moment self.now.design.now l.now self.now.u) }
+    {
+        let t = self.share(l);
+        let arm = self.design.h as i64 - 2 * i64::from(l.depth);
+        arith::floor_div(t.p as i64 * arm, 2 * t.q as i64)
+    }
 }

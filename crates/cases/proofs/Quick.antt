@@ -8,7 +8,12 @@ use native.Mathlib.Omega.{arith}
 use lib.Dec.{T, eqb, leb, eqb_refl}
 use lib.IntN.{ℤ}
 use borrow.Author.Tests.{leb-true, eqb-true, ne_eqb}
-use Rattle.arith.specs.Chain.{first_failing}
+use Rattle.std.specs.Prelude.{Option, None, Some, Result, Ok, Err}
+use Rattle.refusals.specs.declared.Refusal.{Refusal}
+use Rattle.refusals.specs.declared.Refusal.TheVariants.{ForceTooHigh}
+use Rattle.refusals.specs.Number.{number_or_0}
+use Rattle.refusals.specs.Chain.{first_failing}
+use Rattle.refusals.proofs.Number.{number_above_0}
 use Rattle.arith.specs.Every.{every}
 use Rattle.arith.proofs.Greatest.{le-greatest, greatest-le, greatest_between}
 use Rattle.arith.proofs.Test.{holds, is_true, and_yes, and_true, both_true, by_cond, clash}
@@ -16,8 +21,6 @@ use Rattle.section.specs.declared.Layer.{Layer}
 use Rattle.section.specs.declared.Section.{Section}
 use Rattle.section.specs.declared.Load.{Load}
 use Rattle.section.specs.declared.Design.{Design}
-use Rattle.section.specs.declared.Accepted.{Accepted}
-use Rattle.section.specs.declared.Accepted.TheVariants.{Ready, Refused}
 use Rattle.section.specs.Section.{layers_of, counted, links_of}
 use Rattle.section.specs.Load.{force_ok}
 use Rattle.section.specs.Refusals.{accepted, load_link_tests}
@@ -34,9 +37,7 @@ use Rattle.equilibrium.proofs.Accuracy.{never_back}
 use Rattle.equilibrium.proofs.DepthOne.{one-turned}
 use Rattle.equilibrium.proofs.Found.{depth_reached, kind, depth_kind, find-in}
 use Rattle.clauses.specs.declared.Listed.{Listed}
-use Rattle.clauses.specs.declared.Checked.{Checked}
-use Rattle.clauses.specs.declared.Checked.TheVariants as checked
-use Rattle.clauses.specs.declared.Checked.TheVariants.{Done}
+use Rattle.clauses.specs.declared.Report.{Report}
 use Rattle.clauses.specs.Compressed.{of_compressed, of_other}
 use Rattle.clauses.specs.Check.{listed, report_at, check_faces, check_of}
 use Rattle.clauses.proofs.Checking.{load_passed, top_refused, bottom_refused, both-reached}
@@ -80,7 +81,7 @@ module _ (x : Design) (ls : List Layer) (N : ℤ) (u : ℕ) where
 -- ---- a row of Find a depth that has a depth, or 12
 
 -- d is the depth u after so many trials, or 12 where u is 0
-abbrev is_it : ℕ → ℕ → Depth → Bool
+abbrev is_it : ℕ → ℕ → Result Depth Refusal → Bool
 is_it u trials d = is_found d (cond (eqb u 0) 12 0) u trials
 
 -- the answer that a depth stands for is that depth, where its trials are as many
@@ -93,14 +94,14 @@ of_kind x (suc u) trials =
     (λ t e. rw (some, same) e) (λ f e. rw (some, same) e)
 
 module _ (s : Section) (N : ℤ) (u trials : ℕ) where
-  unfoldable pub found_at : Accepted → Bool
-  found_at (Ready x) = force_ok N && (carries x (layers_of s) N 1 && (is_depth x (layers_of s) N u && eqb (depth.trials_found (kind x u)) trials))
-  found_at (Refused j) = false
+  unfoldable pub found_at : Result Design Refusal → Bool
+  found_at (Ok x) = force_ok N && (carries x (layers_of s) N 1 && (is_depth x (layers_of s) N u && eqb (depth.trials_found (kind x u)) trials))
+  found_at (Err j) = false
 
-  found_sound : (a : Accepted) → accepted (counted s) ≡ a → found_at a ≡ true → is_it u trials (find_depth s N) ≡ true
+  found_sound : (a : Result Design Refusal) → accepted (counted s) ≡ a → found_at a ≡ true → is_it u trials (find_depth s N) ≡ true
   unfolding found_at
-  found_sound (Refused j) e h = absurd (holds h)
-  found_sound (Ready x) e h =
+  found_sound (Err j) e h = absurd (holds h)
+  found_sound (Ok x) e h =
       let ls = layers_of s in
       let loaded = both_true (force_ok N) _ h in
       let one = both_true (carries x ls N 1) _ loaded.1 in
@@ -110,6 +111,11 @@ module _ (s : Section) (N : ℤ) (u trials : ℕ) where
       ap (is_it u trials) is ∙ of_kind x u trials found.1
 
 -- ---- a row of Check that has depths, or 12
+
+-- every refusal has a number above 0
+none_by : (o : Option Refusal) → number_or_0 o ≡ 0 → o ≡ None
+none_by None e = refl
+none_by (Some r) e = absurd (omega (arith, number_above_0 r, e))
 
 module _ (s : Section) (load : Load) (l : Listed) where
   abbrev top : ℕ
@@ -121,24 +127,24 @@ module _ (s : Section) (load : Load) (l : Listed) where
   abbrev below : Design → List Layer
   below x = turned x.h (layers_of s)
 
-  abbrev report : Design → Checked
-  report x = Done (report_at x (links_of s) load (layers_of s) (below x) top bottom)
+  abbrev report : Design → Result Report Refusal
+  report x = Ok (report_at x (links_of s) load (layers_of s) (below x) top bottom)
 
   abbrev reported_as : Design → Bool
   reported_as x =
       is_depth x (layers_of s) load.n top && (is_depth x (below x) load.n bottom && (leb 1 top && (leb 1 bottom && same_listed (listed (report x)) l)))
 
   abbrev refused_as : Design → Bool
-  refused_as x = (is_depth x (layers_of s) load.n 0 || is_depth x (below x) load.n 0) && same_listed (listed (checked.Refused 12)) l
+  refused_as x = (is_depth x (layers_of s) load.n 0 || is_depth x (below x) load.n 0) && same_listed (listed (Err ForceTooHigh)) l
 
-  unfoldable pub reports : Accepted → Bool
-  reports (Ready x) =
-      eqb (first_failing (load_link_tests (links_of s) load)) 0
+  unfoldable pub reports : Result Design Refusal → Bool
+  reports (Ok x) =
+      eqb (number_or_0 (first_failing (load_link_tests (links_of s) load))) 0
       && (carries x (layers_of s) load.n 1 && cond (eqb l.refusal 0) (reported_as x) (refused_as x))
-  reports (Refused k) = false
+  reports (Err j) = false
 
   module _ {x : Design} (w : Usable x s.count (layers_of s)) (one : carries x (layers_of s) load.n 1 ≡ true) where
-    abbrev answer : Checked
+    abbrev answer : Result Report Refusal
     answer = check_faces x (layers_of s) (below x) (links_of s) load
 
     same : carries x (below x) load.n 1 ≡ carries x (layers_of s) load.n 1
@@ -161,12 +167,12 @@ module _ (s : Section) (load : Load) (l : Listed) where
         let high = both_true (leb 1 top) _ b.1 in
         let low = both_true (leb 1 bottom) _ high.1 in
         let is : answer ≡ report x = sym (both-reached x (layers_of s) (below x) (links_of s) load same one (top_by top t.0 ∙ high.0)
-        (bottom_by bottom b.0 ∙ low.0)) ∙ (λ i. Done (report_at x (links_of s) load (layers_of s) (below x)
+        (bottom_by bottom b.0 ∙ low.0)) ∙ (λ i. Ok (report_at x (links_of s) load (layers_of s) (below x)
         (depth_is x (layers_of s) load.n top w.bounded t.0 i) (depth_is x (below x) load.n bottom v.bounded b.0 i))) in
         ap (λ r. same_listed (listed r) l) is ∙ low.1
 
     twelve : (high low : Bool) → is_depth x (layers_of s) load.n 0 ≡ high → is_depth x (below x) load.n 0 ≡ low → high || low ≡ true
-        → checked.Refused 12 ≡ answer
+        → Err ForceTooHigh ≡ answer
     twelve true low t b h = top_refused x (layers_of s) (below x) (links_of s) load same one (top_by 0 t)
     twelve false true t b h = bottom_refused x (layers_of s) (below x) (links_of s) load same one (bottom_by 0 b)
     twelve false false t b h = absurd (clash h refl)
@@ -176,14 +182,14 @@ module _ (s : Section) (load : Load) (l : Listed) where
         let both = both_true (is_depth x (layers_of s) load.n 0 || is_depth x (below x) load.n 0) _ h in
         ap (λ r. same_listed (listed r) l) (sym (twelve _ _ refl refl both.0)) ∙ both.1
 
-  reports_sound : (a : Accepted) → accepted (counted s) ≡ a → reports a ≡ true → same_listed (listed (check_of s load)) l ≡ true
+  reports_sound : (a : Result Design Refusal) → accepted (counted s) ≡ a → reports a ≡ true → same_listed (listed (check_of s load)) l ≡ true
   unfolding reports
-  reports_sound (Refused k) e h = absurd (holds h)
-  reports_sound (Ready x) e h =
-      let loaded = both_true (eqb (first_failing (load_link_tests (links_of s) load)) 0) _ h in
+  reports_sound (Err j) e h = absurd (holds h)
+  reports_sound (Ok x) e h =
+      let loaded = both_true (eqb (number_or_0 (first_failing (load_link_tests (links_of s) load))) 0) _ h in
       let faces = both_true (carries x (layers_of s) load.n 1) _ loaded.1 in
       let w = usable_by s e in
-      ap (λ r. same_listed (listed r) l) (sym (load_passed s load e (eqb-true _ 0 loaded.0)))
+      ap (λ r. same_listed (listed r) l) (sym (load_passed s load e (none_by _ (eqb-true _ 0 loaded.0))))
       ∙ by_cond (λ t. t ≡ true → same_listed (listed (answer w faces.0)) l ≡ true) (eqb l.refusal 0) (λ t. reported_sound w faces.0)
       (λ f. refused_sound w faces.0) faces.1
 

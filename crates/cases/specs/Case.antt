@@ -1,10 +1,10 @@
 -- What a row of the table of worked cases says. Assumes nothing.
-use Rattle.std.specs.Prelude.{ℕ, Bool, true, false, ◌&&◌, List, [], ◌∷◌, eqb, ℤ}
+use Rattle.std.specs.Prelude.{ℕ, Bool, true, false, ◌&&◌, List, [], ◌∷◌, eqb, ℤ, Result, Ok, Err}
 use Rattle.std.specs.Int.Signed.{le_z}
-use Rattle.arith.specs.Chain.{first_failing}
+use Rattle.refusals.specs.declared.Refusal.{Refusal}
+use Rattle.refusals.specs.Number.{number_of, number_or_0, refusal_number}
+use Rattle.refusals.specs.Chain.{first_failing}
 use Rattle.arith.specs.Fraction.{integer, is_same}
-use Rattle.materials.specs.declared.Answer.{Answer}
-use Rattle.materials.specs.declared.Answer.TheVariants as materials
 use Rattle.materials.specs.declared.Grade.{Grade}
 use Rattle.materials.specs.declared.Materials.{Materials}
 use Rattle.materials.specs.Answer.{materials_of}
@@ -12,8 +12,7 @@ use Rattle.section.specs.declared.Layer.{Layer}
 use Rattle.section.specs.declared.Links.{Links}
 use Rattle.section.specs.declared.Section.{Section}
 use Rattle.section.specs.declared.Load.{Load}
-use Rattle.section.specs.declared.Accepted.{Accepted}
-use Rattle.section.specs.declared.Accepted.TheVariants as section
+use Rattle.section.specs.declared.Design.{Design}
 use Rattle.section.specs.Section.{layers_of, counted, links_of}
 use Rattle.section.specs.Refusals as sections
 use Rattle.beyond.specs.Force as beyond
@@ -75,30 +74,30 @@ same_materials a b =
     eqb a.fck b.fck && eqb a.fyk b.fyk && eqb a.t b.t && eqb a.e b.e && eqb a.d b.d && eqb a.l b.l && eqb a.f b.f
     && eqb a.g b.g && eqb a.s b.s && eqb a.crd b.crd
 
-abbrev is_material : Answer → Materials → Bool
-is_material (materials.Known m) n = same_materials m n
-is_material (materials.Refused k) n = false
+abbrev is_material : Result Materials Refusal → Materials → Bool
+is_material (Ok m) n = same_materials m n
+is_material (Err r) n = false
 
-abbrev is_refused : Answer → ℕ → Bool
-is_refused (materials.Known m) k = false
-is_refused (materials.Refused j) k = eqb j k
+abbrev is_refused : Result Materials Refusal → ℕ → Bool
+is_refused (Ok m) k = false
+is_refused (Err r) k = eqb (number_of r) k
 
 -- no rounding: the fraction is the whole number
-abbrev force_is : List Layer → Accepted → ℕ → ℤ → Bool
-force_is ls (section.Ready x) u z = is_same (internal_force x ls (at u)) (integer z)
-force_is ls (section.Refused k) u z = false
+abbrev force_is : List Layer → Result Design Refusal → ℕ → ℤ → Bool
+force_is ls (Ok x) u z = is_same (internal_force x ls (at u)) (integer z)
+force_is ls (Err j) u z = false
 
-abbrev force_beyond_is : List Layer → Accepted → ℕ → ℤ → Bool
-force_beyond_is ls (section.Ready x) u z = sameℤ (beyond.internal_force x ls u) z
-force_beyond_is ls (section.Refused k) u z = false
+abbrev force_beyond_is : List Layer → Result Design Refusal → ℕ → ℤ → Bool
+force_beyond_is ls (Ok x) u z = sameℤ (beyond.internal_force x ls u) z
+force_beyond_is ls (Err j) u z = false
 
-abbrev turned_force_is : List Layer → Accepted → ℕ → ℤ → Bool
-turned_force_is ls (section.Ready x) u z = force_is (turned x.h ls) (section.Ready x) u z
-turned_force_is ls (section.Refused k) u z = false
+abbrev turned_force_is : List Layer → Result Design Refusal → ℕ → ℤ → Bool
+turned_force_is ls (Ok x) u z = force_is (turned x.h ls) (Ok x) u z
+turned_force_is ls (Err j) u z = false
 
-abbrev turned_gives : List Layer → Accepted → ℕ → ℤ → Bool
-turned_gives ls (section.Ready x) u z = sameℤ (steel_resistance x (turned x.h ls) u) z
-turned_gives ls (section.Refused k) u z = false
+abbrev turned_gives : List Layer → Result Design Refusal → ℕ → ℤ → Bool
+turned_gives ls (Ok x) u z = sameℤ (steel_resistance x (turned x.h ls) u) z
+turned_gives ls (Err j) u z = false
 
 abbrev reads_as : Reading → ℕ → ℕ → ℤ → ℤ → Bool
 reads_as r k n z a = eqb r.refusal k && eqb r.length n && sameℤ r.section.grade.situation z && sameℤ r.section.grade.alphacc a
@@ -109,10 +108,10 @@ same_numbers (x ∷ xs) (y ∷ ys) = eqb x y && same_numbers xs ys
 same_numbers [] (y ∷ ys) = false
 same_numbers (x ∷ xs) [] = false
 
-abbrev shear_is : List Layer → Accepted → ℕ → ℕ → ℕ → ℕ → Bool
-shear_is ls (section.Ready x) u k y z =
+abbrev shear_is : List Layer → Result Design Refusal → ℕ → ℕ → ℕ → ℕ → Bool
+shear_is ls (Ok x) u k y z =
     eqb (K (dm u ls)) k && eqb (r x.b x.m.fck (As u ls) (dm u ls)) y && eqb (q x.m.fck (K (dm u ls))) z
-shear_is ls (section.Refused j) u k y z = false
+shear_is ls (Err j) u k y z = false
 
 -- (It stays shut until the seal is opened, so that the answer is computed once and not once for each number compared.)
 unfoldable pub same_listed : Listed → Listed → Bool
@@ -124,14 +123,14 @@ same_listed a b =
 abbrev pub holds : Case → Bool
 holds (material grade m) = is_material (materials_of grade) m
 holds (no_material grade k) = is_refused (materials_of grade) k
-holds (tests s k) = eqb (sections.refusal_number (sections.accepted (counted s))) k
+holds (tests s k) = eqb (refusal_number (sections.accepted (counted s))) k
 holds (force s u z) = force_is (layers_of s) (sections.accepted (counted s)) u z
 holds (force_beyond s u z) = force_beyond_is (layers_of s) (sections.accepted (counted s)) u z
 holds (turned_force s u z) = turned_force_is (layers_of s) (sections.accepted (counted s)) u z
-holds (resists s u k m) = eqb (moment.refusal_number (moment.moment_at s u)) k && sameℤ (moment.moment_found (moment.moment_at s u)) m
+holds (resists s u k m) = eqb (refusal_number (moment.moment_at s u)) k && sameℤ (moment.moment_found (moment.moment_at s u)) m
 holds (turned_steel s u z) = turned_gives (layers_of s) (sections.accepted (counted s)) u z
 holds (size_factor d k) = eqb (K d) k
-holds (link_tested s l k) = eqb (first_failing (sections.load_link_tests (links_of s) l)) k
+holds (link_tested s l k) = eqb (number_or_0 (first_failing (sections.load_link_tests (links_of s) l))) k
 holds (written s l bytes) = same_numbers (record_of (counted s) (links_of s) l) bytes
 holds (read xs k n z a) = reads_as (read_of xs) k n z a
 holds (struts x c k z) = eqb (link_resistance x c) k && eqb (strut_resistance x c) z
@@ -145,8 +144,8 @@ pub record DepthRow : Type 0 where
   pub u : ℕ
   pub trials : ℕ
 
-abbrev pub is_found : Depth → ℕ → ℕ → ℕ → Bool
-is_found d k u t = eqb (depth.refusal_number d) k && (eqb (depth.depth_found d) u && eqb (depth.trials_found d) t)
+abbrev pub is_found : Result Depth Refusal → ℕ → ℕ → ℕ → Bool
+is_found d k u t = eqb (refusal_number d) k && (eqb (depth.depth_found d) u && eqb (depth.trials_found d) t)
 
 abbrev pub depth_holds : DepthRow → Bool
 depth_holds row = is_found (depth.find_depth row.section row.n) row.refusal row.u row.trials

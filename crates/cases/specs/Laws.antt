@@ -1,6 +1,6 @@
 -- What the documents say of the definitions and no contract says: each a law, in full. A law that is taken away or weakened in its crate
 -- fails here. Assumes nothing.
-use Rattle.std.specs.Prelude.{ℕ, suc, ◌+◌, ◌*◌, ◌^◌, ◌≤◌, ◌<◌, true, false, ◌↔◌, ◌≡◌, refl, ℤ, neg_ℤ, ◌<ℤ◌, length}
+use Rattle.std.specs.Prelude.{ℕ, suc, ◌+◌, ◌*◌, ◌^◌, ◌≤◌, ◌<◌, true, false, ◌↔◌, ◌≡◌, refl, ℤ, neg_ℤ, ◌<ℤ◌, length, Ok}
 use mathlib.Core.List.{List, [], ◌++◌, reverse, reverse_perm}
 use Rattle.arith.specs.Fraction.{Ratio, Same, integer, ◌<ᶠ◌}
 use Rattle.arith.specs.Greatest.{IsGreatest, IsLeast}
@@ -11,7 +11,6 @@ use Rattle.section.specs.declared.Links.{Links}
 use Rattle.section.specs.declared.Section.{Section}
 use Rattle.section.specs.declared.Load.{Load}
 use Rattle.section.specs.declared.Design.{Design}
-use Rattle.section.specs.declared.Accepted.TheVariants.{Ready}
 use Rattle.section.specs.Section.{layers_of, Counted, counted, absent, no_links, counted_links, links_of}
 use Rattle.section.specs.Code.Usable.{Bounded, Usable}
 use Rattle.section.specs.Refusals.{accepted}
@@ -123,7 +122,7 @@ either_way = record { width = refl; height = refl; grade = refl; count = refl; l
 -- ---- of the layers of an accepted section, for either face
 
 -- they are usable, which is what the laws below ask
-pub usable_faces : (s : Section) {x : Design} → accepted (counted s) ≡ Ready x
+pub usable_faces : (s : Section) {x : Design} → accepted (counted s) ≡ Ok x
     → Usable x s.count (layers_of s) × Usable x s.count (turned x.h (layers_of s))
 usable_faces s e = (usable_by s e, usable_turned (layers_of s) (usable_by s e))
 

@@ -1,29 +1,24 @@
 -- A first line, a text after it in the same buffer, and what it has to be. Assumes nothing.
-use Prim.Native.Nat.{ℕ, zero, suc, ◌+◌, ◌-◌, ◌≤◌}
-use mathlib.Core.Bool.{true, false}
-use mathlib.Core.List.{List, [], ◌∷◌, ◌++◌, append-nil}
+use Prim.Native.Nat.{ℕ, ◌+◌, ◌-◌, ◌≤◌}
+use mathlib.Core.Bool.{true}
+use mathlib.Core.List.{List, ◌++◌, append-nil}
 use mathlib.Core.Path.{◌≡◌, refl, sym, ap, ap₂, subst, ◌∙◌}
 use native.Mathlib.Nat.{zero-add}
 use native.Mathlib.Omega.{arith}
 use borrow.Author.Tests.{le-leb}
 use borrow.Rule.Slice.PartMut.{mid_of, put_mid}
 use lib.Dec.{leb}
-use lib.IntN.{ℤ, pos, negsuc}
 use lib.ListN.{length, take, drop, length-append, length-drop, drop_of_length-le}
 use lib.Seq.{length-take-le, take_all, take_at, drop-drop}
-use lib.Signed.{lt_z}
-use Rattle.arith.proofs.Ring.{of_le}
-use Rattle.arith.proofs.Test.{clash, lt-false}
 use Rattle.record.specs.declared.Written.{Written}
 use Rattle.record.specs.Bytes.{placed}
 use Rattle.listing.specs.Code.Buffer.{Put}
 use Rattle.listing.specs.Answers.{text_written, text_buffer}
-use Rattle.listing.specs.Records.{list_of}
-use Rattle.listing.specs.Program.{first_line, too_long, printed_of}
+use Rattle.listing.specs.Program.{first_line, printed_of}
 use Rattle.listing.proofs.Finishing.{then}
-use Rattle.listing.proofs.Laws.{printed_list, printed_26}
-use Rattle.std.specs.Prelude.{Option, None, Some, IfSome, ◌≤ℤ◌}
-use Rattle.check_list.specs.Input.{Began, Beyond, Full, IsPrefixLen}
+use Rattle.std.specs.Borrow.{Bor}
+use Rattle.std.specs.Prelude.{Option, None, Some, IfSome}
+use Rattle.check_list.specs.Input.{Had, IsPrefixLen}
 
 -- a text at the start lies within the buffer
 pub within : {xs s ys : List ℕ} {n : ℕ} → Put xs 0 s ys n → n ≤ length ys
@@ -65,24 +60,6 @@ module _ {xs ys zs : List ℕ} {at : ℕ} (room : ℕ) (t : List ℕ) {r : Writt
   pub both_put : Both xs ys zs at t r
   both_put = then (omega arith) first after_it
 
--- ---- which text it is, by what the last read answered
-
-pub is_too_long : (hand rest : List ℕ) (last : ℤ) → lt_z (pos 0) last ≡ true → Full last (length hand) 65536 → Beyond last rest
-    → first_line ++ too_long ≡ printed_of (hand ++ rest)
-is_too_long hand rest (pos zero) h full b = absurd (clash h refl)
-is_too_long hand rest (negsuc k) h full b = absurd (clash h refl)
-is_too_long hand rest (pos (suc k)) h full b = more rest b
-  where
-    more : (rest : List ℕ) → (rest ≡ [] → ⊥) → first_line ++ too_long ≡ printed_of (hand ++ rest)
-    more [] some = absurd (some refl)
-    more (x ∷ rest) some = sym (printed_26 (hand ++ (x ∷ rest)) (omega (arith, length-append hand (x ∷ rest))))
-
-pub is_list : (hand rest : List ℕ) (last : ℤ) → lt_z (pos 0) last ≡ false → length hand ≤ 65536 → Beyond last rest
-    → first_line ++ list_of hand ≡ printed_of (hand ++ rest)
-is_list hand rest (pos (suc k)) h few b = absurd (omega (arith, of_le (pos (suc k)) (pos 0) (lt-false (pos 0) (pos (suc k)) h)))
-is_list hand rest (negsuc k) h few b = absurd b
-is_list hand rest (pos zero) h few none = rw (none, append-nil hand) (sym (printed_list hand few))
-
 -- ---- the bytes of the text in the buffer
 
 pub printed : {xs s ys : List ℕ} {n : ℕ} → Put xs 0 s ys n → take n ys ≡ s
@@ -90,11 +67,9 @@ unfolding placed
 printed {xs} {s} {ys} {n} p =
     ap₂ (λ (k : ℕ) (l : List ℕ). take k l) (p.end ∙ zero-add (length s)) p.bytes ∙ take_at s (drop (0 + length s) xs) (length s) refl
 
--- What holds of the bytes of the text holds of the text for all that a reader had, where none of its reads failed.
-pub of_all : (had : Option (List ℕ)) (hand before after : List ℕ) (last : ℤ) (n : ℕ) (P : List ℕ → Type 0)
-    → IfSome had (λ xs. Began last hand xs) → pos 0 ≤ℤ last
-    → ((rest : List ℕ) → Beyond last rest → Put before 0 (printed_of (hand ++ rest)) after n)
+-- What holds of the bytes of the text holds of the text for all that a reader had.
+pub of_all : (had : Option (List ℕ)) (taken : Option (Bor (List ℕ))) (before after : List ℕ) (n : ℕ) (P : List ℕ → Type 0)
+    → IfSome had (λ xs. Had taken 65536 xs) → ((xs : List ℕ) → Had taken 65536 xs → Put before 0 (printed_of xs) after n)
     → P (take n after) → IfSome had (λ xs. P (printed_of xs))
-of_all None hand before after last n P b h put p = tt
-of_all (Some xs) hand before after last n P b h put p =
-    subst P (printed (put b.0 (b.2 h)) ∙ sym (ap printed_of b.1)) p
+of_all None taken before after n P b put p = tt
+of_all (Some xs) taken before after n P b put p = subst P (printed (put xs b)) p

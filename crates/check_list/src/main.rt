@@ -3,12 +3,12 @@
 
 #![tactic(auto)]
 
-ghost use Rattle.std.specs.Prelude.{List, ◌++◌, ◌≡◌, ◌≢◌, ◌↔◌, ℕ, ◌≤◌, length, take, IsErrOf, IfSome, OnOk};
+ghost use Rattle.std.specs.Prelude.{List, ◌≡◌, ◌≢◌, ◌↔◌, ℕ, ◌≤◌, length, take, IsErrOf, IfOk, IfSome, OnOk};
 ghost use Rattle.std.specs.IoError.{error_kind};
 ghost use Rattle.std.specs.Io.KnownBytes.{Appends, Keeps};
 ghost use Rattle.listing.specs.Code.Buffer.{Put};
 ghost use Rattle.listing.specs.Program.{first_line, printed_of};
-ghost use Rattle.check_list.specs.Input.{Began, Beyond, Full, IsPrefixLen};
+ghost use Rattle.check_list.specs.Input.{Had, IsPrefixLen};
 
 use std::io;
 use std::io::{ErrorKind, Read, Write};
@@ -17,14 +17,8 @@ use std::process::ExitCode;
 // The status of a program that ended as whoever read its output stopped: 128 and SIGPIPE.
 const NO_READER: u8 = 141;
 
-// The bytes in hand, and what the last read answered: 0 at the end of the input, above 0 for a byte beyond them, −1 where it failed.
-#[derive(Clone, Copy)]
-struct Taken {
-    count: usize,
-    last: isize,
-}
-
-// Why the list is not there or not whole: a read failed, or a write did, or whoever reads it stopped.
+// Why the list is not there or not whole: a read failed, or a write did, or whoever reads it stopped. (Without a Display: each message is printed at
+// one place, in `main`.)
 #[derive(Clone, Copy)]
 enum Failure {
     NotRead,
@@ -32,34 +26,26 @@ enum Failure {
     NoReader,
 }
 
-// Reads until the buffer is full and a byte beyond it was asked for, the input ends, or a read fails.
-fn read_input<R: Read>(reader: &mut R, buffer: &mut [u8]) -> Taken
-    ensures within { IsPrefixLen result.count buffer.new }
-    ensures full { Full result.last result.count (length buffer.new) }
-    ensures bytes { IfSome (R.remaining reader.old) (λ xs. Began result.last (take result.count buffer.new) xs) }
+// All the bytes that the reader has, at the start of the buffer; or `None`, where it has more than the buffer holds. Reads until the
+// buffer is full and a byte beyond it was asked for, the input ends, or a read fails: then no bytes are in hand. By hand, as std's read_exact tells
+// little after an Err, and read_to_end asks for a Vec.
+fn read_input<'a, R: Read>(reader: &mut R, buffer: &'a mut [u8]) -> io::Result<Option<&'a [u8]>>
+    ensures few { IfOk result (λ taken. IfSome taken (λ hand. length hand.now ≤ length buffer.old)) }
+    ensures bytes { IfSome (R.remaining reader.old) (λ xs. IfOk result (λ taken. Had taken (length buffer.old) xs)) }
 {
     let mut n = 0usize;
     while n < buffer.len() {
-        match reader.read(&mut buffer[n..]) {
-            Ok(0) => {
-                return Taken { count: n, last: 0 };
-            }
-            Ok(more) => n += more,
-            Err(_) => {
-                return Taken { count: n, last: -1 };
-            }
+        let more = reader.read(&mut buffer[n..])?;
+        if more == 0 {
+            return Ok(Some(&buffer[..n]));
         }
+        n += more;
     }
-    let mut byte = [0u8; 1];
-    let last = match reader.read(&mut byte) {
-        Ok(0) => 0,
-        Ok(_) => 1,
-        Err(_) => -1,
-    };
-    Taken {
-        count: n,
-        last: last,
+    let beyond = reader.read(&mut [0u8; 1])?;
+    if beyond > 0 {
+        return Ok(None);
     }
+    Ok(Some(buffer))
 }
 
 // Room for the first line and the list of 65,536 bytes: 42, and 12 for each and 48. The `ensures` gives only the length.
@@ -69,71 +55,58 @@ fn text_buffer() -> [u8; 786522]
     [0; 786522]
 }
 
-// Bytes, at the start of a text.
-fn put_bytes(text: &mut [u8], bytes: &[u8]) -> usize
-    requires { length bytes.now ≤ length text.old }
-    ensures { Put text.old 0 bytes.now text.new result }
-{
-    let mut i = 0usize;
-    while i < bytes.len() {
-        text[i] = bytes[i];
-        i += 1;
-    }
-    i
-}
-
 fn put_first_line(text: &mut [u8]) -> usize
     requires { 42 ≤ length text.old }
     ensures { Put text.old 0 first_line text.new result }
 {
-    put_bytes(text, b"rec ref u mrd vrd dm as v1 v2 v3 v4 v5 v6\n")
+    text[..42].copy_from_slice(b"rec ref u mrd vrd dm as v1 v2 v3 v4 v5 v6\n");
+    42
 }
 
-// The whole text, for the bytes in hand and whatever follows them: the first line, then the list; or the line of refusal 26, where
-// a byte beyond them was read.
-fn put_text(hand: &[u8], last: isize, text: &mut [u8]) -> usize
-    requires few { length hand.now ≤ 65536 }
-    requires full { Full last (length hand.now) 65536 }
+// The whole text, for the bytes of an input: the first line, then the list; or the line of refusal 26, where there are more than 65,536.
+fn put_text(input: Option<&[u8]>, text: &mut [u8]) -> usize
+    requires few { IfSome input (λ hand. length hand.now ≤ 65536) }
     requires room { 786522 ≤ length text.old }
     ensures within { IsPrefixLen result text.new }
-    ensures text { (rest : List ℕ) → Beyond last rest → Put text.old 0 (printed_of (hand.now ++ rest)) text.new result }
+    ensures text { (xs : List ℕ) → Had input.entry 65536 xs → Put text.old 0 (printed_of xs) text.new result }
 {
     let at = put_first_line(text);
-    let is_beyond = last > 0;
-    if is_beyond {
-        let written = listing::list_too_long(&mut text[at..]);
-        at + written.length
-    } else {
-        let written = listing::list(hand, &mut text[at..]);
-        at + written.length
+    match input {
+        Some(hand) => at + listing::list(hand, &mut text[at..]).length,
+        None => at + listing::list_too_long(&mut text[at..]).length,
     }
 }
 
-// Writes all of the bytes, or stops at the first write that takes nothing or fails.
+// Writes all of the bytes, or stops at the first write that takes nothing or fails. By hand, as std's write_all tells little after an Err, and tries a
+// write again that was interrupted.
 fn write_whole<W: Write>(writer: &mut W, bytes: &[u8]) -> io::Result<()>
     ensures whole { OnOk result (Appends (W.contents writer.old) (W.contents writer.new) bytes.now) }
     ensures part { (k : ℕ) × Appends (W.contents writer.old) (W.contents writer.new) (take k bytes.now) }
 {
-    let mut done = 0usize;
-    while done < bytes.len() {
-        let more = writer.write(&bytes[done..])?;
+    let mut left = bytes;
+    while !left.is_empty() {
+        let more = writer.write(left)?;
         if more == 0 {
             return Err(io::Error::from(ErrorKind::WriteZero));
         }
-        done += more;
+        left = left.split_at(more).1;
     }
     Ok(())
 }
 
 // Why a write failed: whoever reads what is written stopped, or something else.
-fn failed_write(e: io::Error) -> Failure
-    ensures stopped { result ≡ Failure.NoReader ↔ error_kind e ≡ ErrorKind.BrokenPipe }
-    ensures write { result ≢ Failure.NotRead }
-{
-    if e.kind() == ErrorKind::BrokenPipe {
-        Failure::NoReader
-    } else {
-        Failure::NotWritten
+impl From<io::Error> for Failure {
+    ghost use Rattle.std.specs.declared.io.ErrorKind.TheVariants.{BrokenPipe};
+    ghost use Rattle.check_list.specs.declared.Failure.TheVariants.{NoReader, NotRead};
+
+    ghost from_gives = { λ e why. (why ≡ NoReader ↔ error_kind e ≡ BrokenPipe) × (why ≢ NotRead) };
+
+    fn from(e: io::Error) -> Failure {
+        if e.kind() == ErrorKind::BrokenPipe {
+            Failure::NoReader
+        } else {
+            Failure::NotWritten
+        }
     }
 }
 
@@ -145,19 +118,15 @@ fn print_list<R: Read, W: Write>(reader: &mut R, writer: &mut W) -> Result<(), F
         (λ xs. (k : ℕ) × Appends (W.contents writer.old) (W.contents writer.new) (take k (printed_of xs))) }
     ensures none { IsErrOf result Failure.NotRead → Keeps (W.contents writer.old) (W.contents writer.new) }
 {
+    // fixed buffers, as nothing is allocated (a rule of the project)
     let mut input = [0u8; 65536];
-    let taken = read_input(reader, &mut input);
-    let n = taken.count;
-    let last = taken.last;
-    if last < 0 {
+    let Ok(taken) = read_input(reader, &mut input) else {
         return Err(Failure::NotRead);
-    }
+    };
     let mut text = text_buffer();
-    let m = put_text(&input[..n], last, &mut text);
-    match write_whole(writer, &text[..m]) {
-        Ok(()) => Ok(()),
-        Err(e) => Err(failed_write(e)),
-    }
+    let m = put_text(taken, &mut text);
+    write_whole(writer, &text[..m])?;
+    Ok(())
 }
 
 fn main(rt: HostRuntime) -> ExitCode {

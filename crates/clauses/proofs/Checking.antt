@@ -1,22 +1,24 @@
 -- What Check answers of both faces, its accuracy, and that no cotangent does better. Assumes nothing.
-use Prim.Native.Nat.{ℕ, zero, suc}
+use Prim.Native.Nat.{ℕ}
 use mathlib.Core.Bool.{Bool, true, false, ◌&&◌, cond}
 use mathlib.Core.List.{List, ◌++◌}
 use mathlib.Core.Path.{◌≡◌, refl, sym, ap, subst, ◌∙◌}
-use native.Mathlib.Omega.{arith}
 use borrow.Author.Tests.{leb-true}
 use lib.IntN.{ℤ, pos}
 use lib.Signed.{le_z}
-use Rattle.arith.specs.Chain.{test, or_else, first_failing}
-use Rattle.arith.proofs.Chain.{first_of}
+use Rattle.std.specs.Prelude.{Option, None, Some, Result, Ok, Err}
+use Rattle.std.specs.Option.{option_or}
+use Rattle.std.specs.Result.{result_err}
+use Rattle.refusals.specs.declared.Refusal.{Refusal}
+use Rattle.refusals.specs.declared.Refusal.TheVariants.{ForceTooLow, ForceTooHigh}
+use Rattle.refusals.specs.Chain.{test, first_failing}
+use Rattle.refusals.proofs.Chain.{first_of}
 use Rattle.arith.proofs.Test.{and_true, and_no}
 use Rattle.section.specs.declared.Layer.{Layer}
 use Rattle.section.specs.declared.Section.{Section}
 use Rattle.section.specs.declared.Links.{Links}
 use Rattle.section.specs.declared.Load.{Load}
 use Rattle.section.specs.declared.Design.{Design}
-use Rattle.section.specs.declared.Accepted.{Accepted}
-use Rattle.section.specs.declared.Accepted.TheVariants as section
 use Rattle.section.specs.Section.{layers_of, counted, links_of}
 use Rattle.section.specs.Refusals.{accepted, load_link_tests, answer}
 use Rattle.equilibrium.specs.Refusals.{carries, reaches}
@@ -25,18 +27,17 @@ use Rattle.equilibrium.specs.Depth.{face_depth}
 use Rattle.equilibrium.specs.Moment.{resistance_at}
 use Rattle.equilibrium.specs.Accuracy.{DepthPromise}
 use Rattle.section.specs.Code.Usable.{Usable, LinksOk}
-use Rattle.section.proofs.Usable.{usable_by, load-links-ok, call_refused, call_ready, call_numbered}
+use Rattle.section.proofs.Usable.{usable_by, load-links-ok, call_refused, call_ready, call_refusal}
 use Rattle.equilibrium.proofs.DepthOne.{one-turned}
 use Rattle.equilibrium.proofs.Found.{depth_promise, depth_reached}
 use Rattle.section.proofs.Turned.{usable_turned}
 use Rattle.clauses.specs.declared.Face.{Face}
 use Rattle.clauses.specs.declared.Report.{Report}
-use Rattle.clauses.specs.declared.Checked.{Checked}
-use Rattle.clauses.specs.declared.Checked.TheVariants.{Done, Refused}
 use Rattle.clauses.specs.Compressed.{of_compressed}
 use Rattle.clauses.specs.Refusals.{faces_tests, faces_tests_of, check_tests}
-use Rattle.clauses.specs.Check.{face_at, report_of, report_at, reported, check_faces, check_in, check_of, OfReport, refusal_number}
-use Rattle.verdicts.specs.Verdicts.{number_of, first}
+use Rattle.clauses.specs.Check.{face_at, report_of, report_at, reported, check_faces, check_in, check_of, OfReport}
+use Rattle.verdicts.specs.declared.Verdict.{Verdict}
+use Rattle.verdicts.specs.Verdicts.{first}
 use Rattle.clauses.specs.Accuracy.{top_of, bottom_of, AccurateFace, AccurateFaces, AccurateCheck}
 use Rattle.clauses.specs.Best.{BestAnswer, BestLinks}
 use Rattle.links.specs.Links.{lesser, BestCotangent}
@@ -55,7 +56,7 @@ module _ (x : Design) (top bottom : List Layer) (k : Links) (load : Load) where
         go true = refl
         go false = same
 
-    pub one_refused : carries x top load.n 1 ≡ false → Refused 11 ≡ check_faces x top bottom k load
+    pub one_refused : carries x top load.n 1 ≡ false → Err ForceTooLow ≡ check_faces x top bottom k load
     unfolding check_faces
     one_refused e = rw (compressed, e)
 
@@ -65,18 +66,18 @@ module _ (x : Design) (top bottom : List Layer) (k : Links) (load : Load) where
       both = reaches x top load.n && reaches x bottom load.n
 
       by_both : {t : Bool} → both ≡ t
-          → answer Refused (reported top bottom k load) (or_else (test 12 t) 0) (section.Ready x) ≡ check_faces x top bottom k load
+          → answer (reported top bottom k load) (option_or (test ForceTooHigh t) None) (Ok x) ≡ check_faces x top bottom k load
       unfolding check_faces
       by_both e = rw (compressed, one, e)
 
-      pub top_refused : reaches x top load.n ≡ false → Refused 12 ≡ check_faces x top bottom k load
+      pub top_refused : reaches x top load.n ≡ false → Err ForceTooHigh ≡ check_faces x top bottom k load
       top_refused e = by_both {t = false} (rw e)
 
-      pub bottom_refused : reaches x bottom load.n ≡ false → Refused 12 ≡ check_faces x top bottom k load
+      pub bottom_refused : reaches x bottom load.n ≡ false → Err ForceTooHigh ≡ check_faces x top bottom k load
       bottom_refused e = by_both {t = false} (rw e (and_no (reaches x top load.n)))
 
       pub both-reached : reaches x top load.n ≡ true → reaches x bottom load.n ≡ true
-          → reported top bottom k load x ≡ check_faces x top bottom k load
+          → Ok (reported top bottom k load x) ≡ check_faces x top bottom k load
       both-reached t b = by_both {t = true} (and_true t b)
 
 -- What holds of 11, of 12, and of the report of both faces at depths that keep their promise, holds of the answer: by cases of the test for 11,
@@ -92,8 +93,8 @@ module _ {x : Design} {count : ℕ} (ls : List Layer) (k : Links) (load : Load) 
       → DepthPromise x zs load.n (face_depth zs load.n x)
   depth_at v one e = depth_promise load.n v one (leb-true _ _ (sym (depth_reached load.n v one) ∙ e))
 
-  pub faces_cases : (Q : Checked → Type 0) → Q (Refused 11) → Q (Refused 12)
-      → ((t b : ℕ) → DepthPromise x ls load.n t → DepthPromise x below load.n b → Q (Done (report_at x k load ls below t b)))
+  pub faces_cases : (Q : Result Report Refusal → Type 0) → Q (Err ForceTooLow) → Q (Err ForceTooHigh)
+      → ((t b : ℕ) → DepthPromise x ls load.n t → DepthPromise x below load.n b → Q (Ok (report_at x k load ls below t b)))
       → Q (check_faces x ls below k load)
   faces_cases Q eleven twelve done = go (carries x ls load.n 1) (reaches x ls load.n) (reaches x below load.n) refl refl refl
     where
@@ -134,55 +135,64 @@ module _ (x : Design) (k : Links) (load : Load) (top bottom : List Layer) (t b :
       go true f g = (refl, refl)
       go false f g = (refl, refl)
 
-  moment_is : report.moment ≡ number_of (first load.m (resistance_at x top t) (resistance_at x bottom b))
+  moment_is : report.moment ≡ first load.m (resistance_at x top t) (resistance_at x bottom b)
   unfolding report_at report_of
   moment_is = refl
+
+  -- by that sign it is what is reported of the one that M compresses
+  abbrev verdict_one : Verdict
+  verdict_one = first load.m (resistance_at x top t) (resistance_at x bottom b)
+
+  pub top_compressed : le_z (pos 0) load.m ≡ true → report_of x top k load (face_at x top t) (face_at x bottom b) verdict_one ≡ report
+  unfolding report_at
+  top_compressed e = rw e
+
+  pub bottom_compressed : le_z (pos 0) load.m ≡ false → report_of x bottom k load (face_at x bottom b) (face_at x top t) verdict_one ≡ report
+  unfolding report_at
+  bottom_compressed e = rw e
 
   best_is : BestAnswer k x report
   unfolding report_at report_of
   best_is = record { best = linked_best x k load.v report.area report.dm; least = linked-least x k load.v report.area report.dm }
 
 module _ (s : Section) (load : Load) where
-  abbrev tests : List ℕ
+  abbrev tests : List (Option Refusal)
   tests = load_link_tests (links_of s) load
 
-  abbrev found : Design → Checked
+  abbrev found : Design → Report
   found x = reported (layers_of s) (turned x.h (layers_of s)) (links_of s) load x
 
-  abbrev under-load : Accepted → List ℕ
+  abbrev under-load : Result Design Refusal → List (Option Refusal)
   under-load a = tests ++ faces_tests_of a (layers_of s) load
 
-  pub check_refused : {k : ℕ} → accepted (counted s) ≡ section.Refused k → Refused k ≡ check_of s load
+  pub check_refused : {r : Refusal} → accepted (counted s) ≡ Err r → Err r ≡ check_of s load
   unfolding check_in
-  check_refused e = sym (call_refused Refused found s under-load e)
+  check_refused e = sym (call_refused found s under-load e)
 
   -- of an accepted section the tests of load and links come next, and then those of the faces
-  check_ready : {x : Design} → accepted (counted s) ≡ section.Ready x
-      → check_of s load ≡ answer Refused found
-      (or_else (first_failing tests) (first_failing (faces_tests x (layers_of s) (turned x.h (layers_of s)) load))) (section.Ready x)
+  check_ready : {x : Design} → accepted (counted s) ≡ Ok x
+      → check_of s load ≡ answer found
+      (option_or (first_failing tests) (first_failing (faces_tests x (layers_of s) (turned x.h (layers_of s)) load))) (Ok x)
   unfolding check_in
   check_ready {x} e =
-      call_ready Refused found s under-load e
-      ∙ ap (λ (k : ℕ). answer Refused found k (section.Ready x)) (first_of tests (faces_tests x (layers_of s) (turned x.h (layers_of s)) load))
+      call_ready found s under-load e
+      ∙ ap (λ (k : Option Refusal). answer found k (Ok x)) (first_of tests (faces_tests x (layers_of s) (turned x.h (layers_of s)) load))
 
-  pub load_refused : {x : Design} (k : ℕ) → accepted (counted s) ≡ section.Ready x → k ≡ first_failing tests → (k ≡ 0 → ⊥)
-      → Refused k ≡ check_of s load
-  load_refused zero e is some = absurd (some refl)
-  load_refused (suc k) e is some = sym (check_ready e ∙ rw (sym is))
+  pub load_refused : {x : Design} {r : Refusal} → accepted (counted s) ≡ Ok x → Some r ≡ first_failing tests → Err r ≡ check_of s load
+  load_refused e is = sym (check_ready e ∙ rw (sym is))
 
-  pub load_passed : {x : Design} → accepted (counted s) ≡ section.Ready x → first_failing tests ≡ 0
+  pub load_passed : {x : Design} → accepted (counted s) ≡ Ok x → first_failing tests ≡ None
       → check_faces x (layers_of s) (turned x.h (layers_of s)) (links_of s) load ≡ check_of s load
   unfolding check_faces
   load_passed {x} e none = sym (check_ready e ∙ rw none (of_faces (first_failing (faces_tests x (layers_of s) (turned x.h (layers_of s)) load))))
     where
-      of_faces : (k : ℕ) → answer Refused found k (section.Ready x)
-          ≡ answer Refused (reported (layers_of s) (turned x.h (layers_of s)) (links_of s) load) k (section.Ready x)
-      of_faces zero = refl
-      of_faces (suc k) = refl
+      of_faces : (k : Option Refusal) → answer found k (Ok x) ≡ answer (reported (layers_of s) (turned x.h (layers_of s)) (links_of s) load) k (Ok x)
+      of_faces None = refl
+      of_faces (Some r) = refl
 
-  check_numbered : refusal_number (check_of s load) ≡ first_failing (check_tests (counted s) (links_of s) load)
+  check_refusal : result_err (check_of s load) ≡ first_failing (check_tests (counted s) (links_of s) load)
   unfolding check_in
-  check_numbered = call_numbered Refused found s under-load refusal_number (λ k. refl) (λ x. refl)
+  check_refusal = call_refusal found s under-load
 
   -- ---- what holds of every report, each face at a depth that keeps its promise, holds of Check's
 
@@ -198,20 +208,19 @@ module _ (s : Section) (load : Load) where
 
   module _ (P : Design → Report → Type 0)
       (each : (x : Design) (t b : ℕ) → Under x t b → P x (report_with x t b)) where
-    report-under : {x : Design} (k : ℕ) → k ≡ first_failing tests → accepted (counted s) ≡ section.Ready x
-        → OfReport P (section.Ready x) (check_of s load)
-    report-under {x} zero none e =
+    report-under : {x : Design} (k : Option Refusal) → k ≡ first_failing tests → accepted (counted s) ≡ Ok x → OfReport P (Ok x) (check_of s load)
+    report-under {x} None none e =
         let ls = layers_of s in
         let w = usable_by s e in
         let linked = (load-links-ok (links_of s) load (sym none)).links in
         rw (← load_passed e (sym none))
-        (faces_cases ls (links_of s) load w (OfReport P (section.Ready x)) tt tt
+        (faces_cases ls (links_of s) load w (OfReport P (Ok x)) tt tt
         (λ t b p q. each x t b (record { usable = w; links = linked; top = p; bottom = q })))
-    report-under (suc k) some e = rw (← load_refused (suc k) e some (λ z. omega arith)) tt
+    report-under (Some r) some e = rw (← load_refused e some) tt
 
-    report_for : (a : Accepted) → accepted (counted s) ≡ a → OfReport P a (check_of s load)
-    report_for (section.Refused j) e = rw (← check_refused e) tt
-    report_for (section.Ready x) e = report-under (first_failing tests) refl e
+    report_for : (a : Result Design Refusal) → accepted (counted s) ≡ a → OfReport P a (check_of s load)
+    report_for (Err j) e = rw (← check_refused e) tt
+    report_for (Ok x) e = report-under (first_failing tests) refl e
 
     pub of_report : OfReport P (accepted (counted s)) (check_of s load)
     of_report = report_for (accepted (counted s)) refl
@@ -226,7 +235,7 @@ module _ (s : Section) (load : Load) where
       record {
         top = subst (AccurateFace x ls load.n) (sym top) w.top.accurate;
         bottom = subst (AccurateFace x (turned x.h ls) load.n) (sym bottom) w.bottom.accurate;
-        taken = moment_is x (links_of s) load ls (turned x.h ls) t b ∙ (λ i. number_of (first load.m (sym top i).mrd (sym bottom i).mrd));
+        taken = moment_is x (links_of s) load ls (turned x.h ls) t b ∙ (λ i. first load.m (sym top i).mrd (sym bottom i).mrd);
       }
 
   pub check_accurate : AccurateCheck s load (check_of s load)
@@ -237,7 +246,7 @@ module _ (s : Section) (load : Load) where
   check_best = of_report (BestAnswer (links_of s)) (λ x t b w. best_is x (links_of s) load (layers_of s) (turned x.h (layers_of s)) t b)
 
   -- the other clauses of `check_section` follow from its first
-  pub check_clauses : {r : Checked} → r ≡ check_of s load
+  pub check_clauses : {r : Result Report Refusal} → r ≡ check_of s load
       → (r ≡ check_of s load)
-      × ((refusal_number r ≡ first_failing (check_tests (counted s) (links_of s) load)) × (AccurateCheck s load r × BestLinks s r))
-  check_clauses e = (e, (rw e check_numbered, (rw e check_accurate, rw e check_best)))
+      × ((result_err r ≡ first_failing (check_tests (counted s) (links_of s) load)) × (AccurateCheck s load r × BestLinks s r))
+  check_clauses e = (e, (rw e check_refusal, (rw e check_accurate, rw e check_best)))

@@ -1,4 +1,3 @@
 pub mod Checking
 pub mod Laws
-pub mod Compressed
 pub mod Rearranged

@@ -5,13 +5,13 @@ use mathlib.Core.List.{List, ◌++◌}
 use mathlib.Core.Path.{◌≡◌, refl, ap}
 use lib.IntN.{pos}
 use lib.Signed.{le_z}
+use Rattle.std.specs.Prelude.{Option, Result, Ok, Err}
 use Rattle.arith.specs.Rearranged.{Rearranged}
+use Rattle.refusals.specs.declared.Refusal.{Refusal}
 use Rattle.section.specs.declared.Layer.{Layer}
 use Rattle.section.specs.declared.Links.{Links}
 use Rattle.section.specs.declared.Load.{Load}
 use Rattle.section.specs.declared.Design.{Design}
-use Rattle.section.specs.declared.Accepted.{Accepted}
-use Rattle.section.specs.declared.Accepted.TheVariants as section
 use Rattle.section.specs.Section.{Counted}
 use Rattle.section.specs.Refusals.{load_link_tests}
 use Rattle.section.specs.Rearranged.{SameBars}
@@ -23,7 +23,6 @@ use Rattle.verdicts.specs.declared.Verdict.{Verdict}
 use Rattle.verdicts.proofs.Areas.{area_same}
 use Rattle.verdicts.proofs.Rearranged.{As-same, dm_same}
 use Rattle.clauses.specs.declared.Face.{Face}
-use Rattle.clauses.specs.declared.Checked.TheVariants.{Done, Refused}
 use Rattle.clauses.specs.Compressed.{of_compressed}
 use Rattle.clauses.specs.Refusals.{faces_tests, faces_tests_of}
 use Rattle.clauses.specs.Check.{report_of, report_at, reported, check_in}
@@ -53,21 +52,20 @@ module _ (x : Design) (load : Load) {xs ys xs' ys' : List Layer} (top : Rearrang
 
   reported_same : (k : Links) → reported xs xs' k load x ≡ reported ys ys' k load x
   reported_same k =
-      rw (face_same x top load.n, face_same x bottom load.n)
-      (ap Done (report-at k (face_depth ys load.n x) (face_depth ys' load.n x)))
+      rw (face_same x top load.n, face_same x bottom load.n) (report-at k (face_depth ys load.n x) (face_depth ys' load.n x))
 
 module _ {c d : Counted} (same : SameBars c d) (load : Load) where
-  abbrev asks : Links → Counted → Accepted → List ℕ
+  abbrev asks : Links → Counted → Result Design Refusal → List (Option Refusal)
   asks k e a = load_link_tests k load ++ faces_tests_of a e.layers load
 
-  asks_same : (k : Links) (a : Accepted) → asks k c a ≡ asks k d a
-  asks_same k (section.Ready x) = ap (λ (ks : List ℕ). load_link_tests k load ++ ks) (faces_asks x load same.layers (turned_same x.h same.layers))
-  asks_same k (section.Refused j) = refl
+  asks_same : (k : Links) (a : Result Design Refusal) → asks k c a ≡ asks k d a
+  asks_same k (Ok x) = ap (λ (ks : List (Option Refusal)). load_link_tests k load ++ ks) (faces_asks x load same.layers (turned_same x.h same.layers))
+  asks_same k (Err j) = refl
 
   -- with the same links
   pub check_same : {j k : Links} → j ≡ k → check_in c j load ≡ check_in d k load
   unfolding check_in
   check_same {k = k} links =
       rw links
-      (call_same same Refused (λ e x. reported e.layers (turned x.h e.layers) k load x) (asks k)
+      (call_same same (λ e x. reported e.layers (turned x.h e.layers) k load x) (asks k)
       (λ x. reported_same x load same.layers (turned_same x.h same.layers) k) (asks_same k))

@@ -1,7 +1,8 @@
 -- The accuracy statement, demand 3 of document 01 and 02's ticket 1, of Check; by ticket 11 it "keeps to depths up to 10h", each face for
 -- itself. Assumes nothing.
-use Rattle.std.specs.Prelude.{◌*◌, ◌≤◌, cond, List, ◌≡◌, ℤ, pos}
+use Rattle.std.specs.Prelude.{◌*◌, ◌≤◌, cond, List, ◌≡◌, ℤ, pos, Result}
 use Rattle.std.specs.Int.Signed.{le_z}
+use Rattle.refusals.specs.declared.Refusal.{Refusal}
 use Rattle.section.specs.declared.Layer.{Layer}
 use Rattle.section.specs.declared.Section.{Section}
 use Rattle.section.specs.declared.Load.{Load}
@@ -12,8 +13,7 @@ use Rattle.section.specs.Turned.{turned}
 use Rattle.equilibrium.specs.Accuracy.{Accurate}
 use Rattle.clauses.specs.declared.Face.{Face}
 use Rattle.clauses.specs.declared.Report.{Report}
-use Rattle.clauses.specs.declared.Checked.{Checked}
-use Rattle.verdicts.specs.Verdicts.{number_of, first}
+use Rattle.verdicts.specs.Verdicts.{first}
 use Rattle.clauses.specs.Check.{OfReport}
 
 -- the face that a report shows
@@ -35,8 +35,8 @@ AccurateFace x ls N face = face.u ≤ 10 * x.h → Accurate x ls N face.u face.m
 pub record AccurateFaces (x : Design) (ls : List Layer) (load : Load) (r : Report) : Type 0 where
   pub top : AccurateFace x ls load.n (top_of load.m r)
   pub bottom : AccurateFace x (turned x.h ls) load.n (bottom_of load.m r)
-  pub taken : r.moment ≡ number_of (first load.m (top_of load.m r).mrd (bottom_of load.m r).mrd)
+  pub taken : r.moment ≡ first load.m (top_of load.m r).mrd (bottom_of load.m r).mrd
 
 -- of Check
-abbrev pub AccurateCheck : Section → Load → Checked → Type 0
+abbrev pub AccurateCheck : Section → Load → Result Report Refusal → Type 0
 AccurateCheck s load r = OfReport (λ x. AccurateFaces x (counted s).layers load) (accepted (counted s)) r

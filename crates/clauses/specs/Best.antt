@@ -1,6 +1,7 @@
 -- "The answer is the cotangent whose lesser resistance is greatest, the smallest cotangent on a tie, and no tenth does better": document 02,
 -- ticket 3, of Check. Assumes nothing.
-use Rattle.std.specs.Prelude.{true, ◌≡◌}
+use Rattle.std.specs.Prelude.{true, ◌≡◌, Result}
+use Rattle.refusals.specs.declared.Refusal.{Refusal}
 use Rattle.section.specs.declared.Links.{Links}
 use Rattle.section.specs.declared.Section.{Section}
 use Rattle.section.specs.declared.Design.{Design}
@@ -8,7 +9,6 @@ use Rattle.section.specs.Section.{counted, links_of}
 use Rattle.section.specs.Refusals.{accepted}
 use Rattle.links.specs.Links.{lesser, BestCotangent}
 use Rattle.clauses.specs.declared.Report.{Report}
-use Rattle.clauses.specs.declared.Checked.{Checked}
 use Rattle.clauses.specs.Linked.{truss_of, reaches_links}
 use Rattle.clauses.specs.Check.{OfReport}
 
@@ -18,5 +18,5 @@ pub record BestAnswer (k : Links) (x : Design) (r : Report) : Type 0 where
   pub best : reaches_links k r.area ≡ true → BestCotangent (truss_of x k r.dm) r.cotangent
   pub least : reaches_links k r.area ≡ true → r.resistance ≡ lesser (truss_of x k r.dm) r.cotangent
 
-abbrev pub BestLinks : Section → Checked → Type 0
+abbrev pub BestLinks : Section → Result Report Refusal → Type 0
 BestLinks s r = OfReport (BestAnswer (links_of s)) (accepted (counted s)) r

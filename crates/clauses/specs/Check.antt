@@ -1,14 +1,14 @@
 -- Check: document 01, "Verdicts", with both faces of 02's ticket 1, the links of its ticket 3 and the depths beyond 10h of its ticket 11.
 -- Assumes nothing.
-use Rattle.std.specs.Prelude.{ℕ, List, [], ◌∷◌, pos, replicate}
-use Rattle.arith.specs.Chain.{first_failing}
+use Rattle.std.specs.Prelude.{ℕ, List, [], ◌∷◌, pos, replicate, Result, Ok, Err}
+use Rattle.refusals.specs.Chain.{first_failing}
+use Rattle.refusals.specs.Number as refusals
+use Rattle.refusals.specs.declared.Refusal.{Refusal}
 use Rattle.section.specs.declared.Layer.{Layer}
 use Rattle.section.specs.declared.Section.{Section}
 use Rattle.section.specs.declared.Links.{Links}
 use Rattle.section.specs.declared.Load.{Load}
 use Rattle.section.specs.declared.Design.{Design}
-use Rattle.section.specs.declared.Accepted.{Accepted}
-use Rattle.section.specs.declared.Accepted.TheVariants as section
 use Rattle.section.specs.Section.{Counted, counted, links_of}
 use Rattle.section.specs.Refusals.{accepted, answer}
 use Rattle.section.specs.Turned.{turned}
@@ -20,8 +20,6 @@ use Rattle.clauses.specs.declared.Listed.{Listed}
 use Rattle.clauses.specs.declared.Report.{Report}
 use Rattle.verdicts.specs.declared.Verdict.{Verdict}
 use Rattle.clauses.specs.declared.linked.LinkReport.{LinkReport}
-use Rattle.clauses.specs.declared.Checked.{Checked}
-use Rattle.clauses.specs.declared.Checked.TheVariants.{Done, Refused}
 use Rattle.verdicts.specs.Tension.{area_of, As, dm}
 use Rattle.clauses.specs.Compressed.{of_compressed, of_other}
 use Rattle.clauses.specs.Refusals.{faces_tests, check_tests}
@@ -54,11 +52,11 @@ module _ (x : Design) (ls : List Layer) (k : Links) (load : Load) (face other : 
         area = area;
         cotangent = linked.cotangent;
         resistance = linked.resistance;
-        moment = number_of moment;
-        depth = number_of (second x.m.fck face.u area mean);
-        shear = number_of (third load.v vrd area);
-        least = number_of (fourth x.m.t x.m.fyk x.b area mean);
-        most = number_of (fifth (area_of ls) x.b x.h);
+        moment = moment;
+        depth = second x.m.fck face.u area mean;
+        shear = third load.v vrd area;
+        least = fourth x.m.t x.m.fyk x.b area mean;
+        most = fifth (area_of ls) x.b x.h;
         links = linked.verdict;
       }
 
@@ -78,27 +76,27 @@ report_at x k load top bottom t b =
     (first load.m (resistance_at x top t) (resistance_at x bottom b))
 
 -- the report, each face at the depth that it has under N, up to 10h or beyond it
-abbrev pub reported : List Layer → List Layer → Links → Load → Design → Checked
-reported top bottom k load x = Done (report_at x k load top bottom (face_depth top load.n x) (face_depth bottom load.n x))
+abbrev pub reported : List Layer → List Layer → Links → Load → Design → Report
+reported top bottom k load x = report_at x k load top bottom (face_depth top load.n x) (face_depth bottom load.n x)
 
 -- 11, 12 or the report, for both faces of an accepted section, whose load and links passed their tests
-unfoldable pub check_faces : Design → List Layer → List Layer → Links → Load → Checked
-check_faces x top bottom k load = answer Refused (reported top bottom k load) (first_failing (faces_tests x top bottom load)) (section.Ready x)
+unfoldable pub check_faces : Design → List Layer → List Layer → Links → Load → Result Report Refusal
+check_faces x top bottom k load = answer (reported top bottom k load) (first_failing (faces_tests x top bottom load)) (Ok x)
 
 -- Check: the top sees the layers as they are, the bottom sees them turned over
-unfoldable pub check_in : Counted → Links → Load → Checked
+unfoldable pub check_in : Counted → Links → Load → Result Report Refusal
 check_in c k load =
-    answer Refused (λ x. reported c.layers (turned x.h c.layers) k load x) (first_failing (check_tests c k load)) (accepted c)
+    answer (λ x. reported c.layers (turned x.h c.layers) k load x) (first_failing (check_tests c k load)) (accepted c)
 
-abbrev pub check_of : Section → Load → Checked
+abbrev pub check_of : Section → Load → Result Report Refusal
 check_of s load = check_in (counted s) (links_of s) load
 
 -- a statement about what is reported of an accepted section; and only an accepted section has a report
 module _ (P : Design → Report → Type 0) where
-  abbrev pub OfReport : Accepted → Checked → Type 0
-  OfReport (section.Ready x) (Done r) = P x r
-  OfReport (section.Refused j) (Done r) = ⊥
-  OfReport a (Refused j) = Unit {0}
+  abbrev pub OfReport : Result Design Refusal → Result Report Refusal → Type 0
+  OfReport (Ok x) (Ok r) = P x r
+  OfReport (Err j) (Ok r) = ⊥
+  OfReport a (Err j) = Unit {0}
 
 -- ---- the paper's number and values for each case of the answer: the refusal, 0 for none, u and MRd of both faces, VRd,c, dm, As, the links'
 -- cotangent and resistance, and the verdicts in the documents' sequence; a refusal has zeros and a 2 for each verdict
@@ -117,9 +115,9 @@ refused_listed k =
       verdicts = replicate 6 2;
     }
 
-abbrev pub listed : Checked → Listed
-listed (Refused k) = refused_listed k
-listed (Done r) =
+abbrev pub listed : Result Report Refusal → Listed
+listed (Err j) = refused_listed (refusals.number_of j)
+listed (Ok r) =
     record {
       refusal = 0;
       u = r.u;
@@ -130,8 +128,6 @@ listed (Done r) =
       area = r.area;
       cotangent = r.cotangent;
       resistance = r.resistance;
-      verdicts = r.moment ∷ r.depth ∷ r.shear ∷ r.least ∷ r.most ∷ r.links ∷ [];
+      verdicts =
+          number_of r.moment ∷ number_of r.depth ∷ number_of r.shear ∷ number_of r.least ∷ number_of r.most ∷ number_of r.links ∷ [];
     }
-
-abbrev pub refusal_number : Checked → ℕ
-refusal_number r = (listed r).refusal

@@ -1,5 +1,4 @@
 pub mod Compressed
-pub mod Code
 pub mod Refusals
 pub mod Linked
 pub mod Check

@@ -3,11 +3,10 @@ use Rattle.std.specs.Prelude.{ℕ, Bool, cond, not, ◌&&◌, leb, ℤ}
 use Rattle.section.specs.declared.Links.{Links}
 use Rattle.section.specs.declared.Design.{Design}
 use Rattle.section.specs.Section.{absent}
-use Rattle.links.specs.declared.Truss.{Truss}
-use Rattle.links.specs.Links.{strut_cotangent, truss_resistance}
+use Rattle.links.specs.Links.{Truss, strut_cotangent, truss_resistance}
 use Rattle.clauses.specs.declared.linked.LinkReport.{LinkReport}
 use Rattle.verdicts.specs.declared.Verdict.TheVariants.{NotReached}
-use Rattle.verdicts.specs.Verdicts.{number_of, sixth}
+use Rattle.verdicts.specs.Verdicts.{sixth}
 
 -- what 6.2.3 and 9.2.2 ask of a section with these links, dm being the mean depth of the tension layers
 abbrev pub truss_of : Design → Links → ℕ → Truss
@@ -20,11 +19,11 @@ reaches_links k As = not (absent k) && leb 1 As
 
 -- the strut's cotangent in tenths, the resistance in newtons, and verdict six
 abbrev pub link_report : Truss → ℤ → LinkReport
-link_report x «V» = record { cotangent = strut_cotangent x; resistance = truss_resistance x; verdict = number_of (sixth x «V») }
+link_report x «V» = record { cotangent = strut_cotangent x; resistance = truss_resistance x; verdict = sixth x «V» }
 
--- without links or without tension layers verdict six is 2, and cotangent and resistance are 0
+-- without links or without tension layers verdict six is not reached, and cotangent and resistance are 0
 abbrev pub no_link_report : LinkReport
-no_link_report = record { cotangent = 0; resistance = 0; verdict = number_of NotReached }
+no_link_report = record { cotangent = 0; resistance = 0; verdict = NotReached }
 
 unfoldable pub linked_report : Design → Links → ℤ → ℕ → ℕ → LinkReport
 linked_report x k «V» As dm = cond (reaches_links k As) (link_report (truss_of x k dm) «V») no_link_report

@@ -1,27 +1,16 @@
 // Document 01's numbers of an answer of Check.
-ghost use Rattle.std.specs.Prelude.{◌≡◌};
+ghost use Rattle.std.specs.Prelude.{◌≡◌, Ok};
 ghost use Rattle.clauses.specs.Check.{refused_listed, listed, check_of};
-ghost use Rattle.verdicts.specs.Verdicts.{number_of};
 
-use super::{Checked, Face, Listed, Report, check_section};
+use super::{Face, Listed, Report, check_section};
+use refusals::Refusal;
 use section::{Load, Section};
-use verdicts::Verdict;
 
-pub fn verdict_number(v: Verdict) -> u64
-    ensures { result ≡ number_of v }
-{
-    match v {
-        Verdict::Pass => 0,
-        Verdict::Fail => 1,
-        Verdict::NotReached => 2,
-    }
-}
-
-// A refusal has zeros and a 2 for each verdict.
+// A refusal has zeros and a 2 for each verdict, which a derived `Default` would not have. (Of any number,
+// as it promised: a `Refusal` would ask more, and the list hands on that of a `Reading`.)
 pub fn refused_listed(k: u64) -> Listed
     ensures { result ≡ refused_listed k }
 {
-    let verdicts = [2u64; 6];
     Listed {
         refusal: k,
         u: 0,
@@ -32,42 +21,44 @@ pub fn refused_listed(k: u64) -> Listed
         area: 0,
         cotangent: 0,
         resistance: 0,
-        verdicts: verdicts,
+        verdicts: [2; 6],
     }
 }
 
-fn report_listed(report: Report) -> Listed
-    ensures { result ≡ listed (Checked.Done report) }
-{
-    let other = report.other;
-    let verdicts = [
-        report.moment,
-        report.depth,
-        report.shear,
-        report.least,
-        report.most,
-        report.links,
-    ];
-    Listed {
-        refusal: 0,
-        u: report.u,
-        mrd: report.mrd,
-        other: other,
-        vrd: report.vrd,
-        dm: report.dm,
-        area: report.area,
-        cotangent: report.cotangent,
-        resistance: report.resistance,
-        verdicts: verdicts,
+impl From<Report> for Listed {
+    ghost from_gives = { λ report l. l ≡ listed (Ok report) };
+
+    fn from(report: Report) -> Listed {
+        Listed {
+            refusal: 0,
+            u: report.u,
+            mrd: report.mrd,
+            other: report.other,
+            vrd: report.vrd,
+            dm: report.dm,
+            area: report.area,
+            cotangent: report.cotangent,
+            resistance: report.resistance,
+            verdicts: [
+                report.moment.number(),
+                report.depth.number(),
+                report.shear.number(),
+                report.least.number(),
+                report.most.number(),
+                report.links.number(),
+            ],
+        }
     }
 }
 
-fn checked_listed(c: Checked) -> Listed
-    ensures { result ≡ listed c }
-{
-    match c {
-        Checked::Refused(k) => refused_listed(k as u64),
-        Checked::Done(report) => report_listed(report),
+impl From<Result<Report, Refusal>> for Listed {
+    ghost from_gives = { λ answer l. l ≡ listed answer };
+
+    fn from(answer: Result<Report, Refusal>) -> Listed {
+        match answer {
+            Ok(report) => report.into(),
+            Err(refusal) => refused_listed(refusal.number()),
+        }
     }
 }
 
@@ -75,5 +66,5 @@ fn checked_listed(c: Checked) -> Listed
 pub fn check_listed(s: Section, l: Load) -> Listed
     ensures { result ≡ listed (check_of s l) }
 {
-    checked_listed(check_section(s, l))
+    check_section(s, l).into()
 }

@@ -7,7 +7,8 @@ ghost use Rattle.equilibrium.specs.Depth.{find_depth};
 ghost use Rattle.equilibrium.specs.Moment.{moment_at};
 ghost use Rattle.clauses.specs.Check.{check_of, listed};
 ghost use Rattle.section.specs.Section.{counted, links_of};
-ghost use Rattle.arith.specs.Chain.{first_failing};
+ghost use Rattle.refusals.specs.Chain.{first_failing};
+ghost use Rattle.refusals.specs.Number.{number_or_0};
 ghost use Rattle.record.specs.Refusals.{read_tests, write_tests};
 ghost use Rattle.record.specs.Read.{read_of, RestIgnored};
 ghost use Rattle.record.specs.Write.{written_of, buffer_of};
@@ -16,13 +17,15 @@ ghost use Rattle.listing.specs.Answers.{list_written, list_buffer};
 ghost use Rattle.engine.specs.Answers.{depth_answer, moment_answer};
 
 use clauses::Listed;
-use equilibrium::{Depth, Moment};
+use equilibrium::Depth;
 use record::{Reading, Written};
+use refusals::Refusal;
 use section::{Load, Section};
 
-// The refusal, 0 for none; the depth in tenths of a millimetre, up to 10h or beyond it; and the trials of the halving rule, 0 where refused and beyond 10h.
+// The refusal, 0 for none; the depth in tenths of a millimetre, up to 10h or beyond it; and the trials of the halving rule, 0 where refused
+// and beyond 10h. Numbers, as below: C has no Result.
 #[repr(C)]
-#[derive(Clone, Copy)]
+#[derive(Clone, Copy, Default)]
 pub struct DepthAnswer {
     pub refusal: u64,
     pub depth: u64,
@@ -37,14 +40,37 @@ pub struct MomentAnswer {
     pub moment: i64,
 }
 
-// The answer with these numbers, so that each case of it is one line below.
-fn depth_answer(refusal: u64, depth: u64, trials: u64) -> DepthAnswer
-    ensures { result ≡ record { refusal = refusal; depth = depth; trials = trials } }
-{
-    DepthAnswer {
-        refusal: refusal,
-        depth: depth,
-        trials: trials,
+impl From<Result<Depth, Refusal>> for DepthAnswer {
+    ghost from_gives = { λ answer d. d ≡ depth_answer answer };
+
+    fn from(answer: Result<Depth, Refusal>) -> DepthAnswer {
+        let zeros = DepthAnswer::default();
+        match answer {
+            Ok(Depth::At(depth, trials)) => DepthAnswer {
+                depth,
+                trials,
+                ..zeros
+            },
+            Ok(Depth::Beyond(depth)) => DepthAnswer { depth, ..zeros },
+            Err(refusal) => DepthAnswer {
+                refusal: refusal.number(),
+                ..zeros
+            },
+        }
+    }
+}
+
+impl From<Result<i64, Refusal>> for MomentAnswer {
+    ghost from_gives = { λ answer m. m ≡ moment_answer answer };
+
+    fn from(answer: Result<i64, Refusal>) -> MomentAnswer {
+        match answer {
+            Ok(moment) => MomentAnswer { refusal: 0, moment },
+            Err(refusal) => MomentAnswer {
+                refusal: refusal.number(),
+                moment: 0,
+            },
+        }
     }
 }
 
@@ -53,27 +79,14 @@ pub extern "C" fn salwoerk_find_depth(s: Section, n: i64) -> DepthAnswer
     ensures value { result ≡ depth_answer (find_depth s n) }
     ensures never_exceeds_15 { result.trials ≤ 15 }
 {
-    match equilibrium::find_depth(s, n) {
-        Depth::At(u, t) => depth_answer(0, u, t),
-        Depth::Beyond(u) => depth_answer(0, u, 0),
-        Depth::Refused(k) => depth_answer(k as u64, 0, 0),
-    }
+    equilibrium::find_depth(s, n).into()
 }
 
 #[unsafe(no_mangle)]
 pub extern "C" fn salwoerk_moment_at(s: Section, u: u64) -> MomentAnswer
     ensures { result ≡ moment_answer (moment_at s u) }
 {
-    match equilibrium::moment_at(s, u) {
-        Moment::Of(m) => MomentAnswer {
-            refusal: 0,
-            moment: m,
-        },
-        Moment::Refused(k) => MomentAnswer {
-            refusal: k as u64,
-            moment: 0,
-        },
-    }
+    equilibrium::moment_at(s, u).into()
 }
 
 #[unsafe(no_mangle)]
@@ -86,7 +99,7 @@ pub extern "C" fn salwoerk_check(s: Section, l: Load) -> Listed
 #[unsafe(no_mangle)]
 pub extern "C" fn salwoerk_read(bytes: &[u8]) -> Reading
     ensures value { result ≡ read_of bytes.now }
-    ensures refusal { result.refusal ≡ first_failing (read_tests bytes.now) }
+    ensures refusal { result.refusal ≡ number_or_0 (first_failing (read_tests bytes.now)) }
     ensures rest_ignored { RestIgnored bytes.now result }
 {
     record::reader::read(bytes)
@@ -96,7 +109,7 @@ pub extern "C" fn salwoerk_read(bytes: &[u8]) -> Reading
 pub extern "C" fn salwoerk_write(s: Section, l: Load, buffer: &mut [u8]) -> Written
     ensures value { result ≡ written_of (counted s) (links_of s) l buffer.old }
     ensures lent { buffer.new ≡ buffer_of (counted s) (links_of s) l buffer.old }
-    ensures refusal { result.refusal ≡ first_failing (write_tests (counted s) (links_of s) l buffer.old) }
+    ensures refusal { result.refusal ≡ number_or_0 (first_failing (write_tests (counted s) (links_of s) l buffer.old)) }
     ensures round_trip { ReadsBack s l result buffer.new }
 {
     record::writer::write(s, l, buffer)

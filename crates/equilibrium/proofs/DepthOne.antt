@@ -16,12 +16,11 @@ use Rattle.section.specs.Section.{all, depth_ok}
 use Rattle.section.specs.Code.Usable.{Bounded, Usable}
 use Rattle.section.specs.Turned.{turned}
 use Rattle.equilibrium.specs.Refusals.{carries}
-use Rattle.section.specs.Code.Columns.{area_sum}
+use Rattle.section.specs.Code.Accepted.{area_sum}
 use Rattle.equilibrium.specs.Code.Whole.{lift_at, lift_sum, rest_at, carries_at_one, excess}
 use Rattle.equilibrium.proofs.Whole.{lifted-low, carries_is}
-use Rattle.section.proofs.InColumns.{area-turned}
 use Rattle.section.proofs.OneLayer.{layer-low}
-use Rattle.section.proofs.Turned.{usable_turned}
+use Rattle.section.proofs.Turned.{usable_turned, area-turned}
 
 -- 520·9 is above 600
 lift-one : (x : Design) (d : ℕ) → Bounded x → 1 ≤ d → lift_at x 1 d ≡ 0

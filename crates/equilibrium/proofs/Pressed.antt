@@ -15,7 +15,7 @@ use Rattle.section.specs.declared.Design.{Design}
 use Rattle.section.specs.Section.{all, depth_ok}
 use Rattle.section.specs.Code.Usable.{Bounded, Usable}
 use Rattle.section.proofs.OneLayer.{layer-high}
-use Rattle.section.specs.Code.Columns.{area_sum}
+use Rattle.section.specs.Code.Accepted.{area_sum}
 use Rattle.equilibrium.specs.Force.{at, internal_force}
 use Rattle.equilibrium.specs.Refusals.{carries, up_to_10h}
 use Rattle.equilibrium.specs.Code.Whole.{lift_at, lift_sum, rest_at, excess}

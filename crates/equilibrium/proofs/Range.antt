@@ -66,7 +66,7 @@ module _ {x : Design} {u : ℕ} (b : Bounded x) (d : DepthRange x u) where
       rw (min-eq_left h) (sym (concrete-floor x u d.low h)))
       (λ f. sym (concrete-moment-whole x u))
 
-  concrete-in : Within (concrete_at x u) 60000000000
+  pub concrete-in : Within (concrete_at x u) 60000000000
   concrete-in = rw (← concrete-at) (record { within = (block_sizes (block_bounds u b)).quotient })
 
   -- ---- a layer

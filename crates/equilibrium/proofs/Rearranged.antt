@@ -5,22 +5,21 @@ use mathlib.Core.List.{List, [], ◌∷◌}
 use mathlib.Core.Path.{◌≡◌, refl, ap, fun_ext}
 use lib.Dec.{leb}
 use lib.IntN.{ℤ, nat_abs, ◌+ℤ◌}
-use Rattle.arith.specs.Chain.{test}
+use Rattle.std.specs.Prelude.{Option, Result, Ok, Err}
+use Rattle.refusals.specs.declared.Refusal.{Refusal}
+use Rattle.refusals.specs.declared.Refusal.TheVariants.{AxialForce, DepthRange}
+use Rattle.refusals.specs.Chain.{test}
 use Rattle.arith.specs.Fraction.{Fraction, Ratio, ◌+ᶠ◌, integer, at_most, floor}
 use Rattle.arith.specs.Halving.{halved}
 use Rattle.arith.specs.Rearranged.{Rearranged}
 use Rattle.arith.proofs.Rearranged.{sum_same, integers, fractions}
 use Rattle.section.specs.declared.Layer.{Layer}
 use Rattle.section.specs.declared.Design.{Design}
-use Rattle.section.specs.declared.Accepted.{Accepted}
-use Rattle.section.specs.declared.Accepted.TheVariants as section
 use Rattle.section.specs.Section.{Counted}
 use Rattle.section.specs.Load.{force_ok}
 use Rattle.section.specs.Rearranged.{SameBars}
 use Rattle.section.proofs.Rearranged.{call_same}
 use Rattle.beyond.proofs.Rearranged as beyond
-use Rattle.equilibrium.specs.declared.Depth.TheVariants.{Refused}
-use Rattle.equilibrium.specs.declared.Moment.TheVariants as moment
 use Rattle.equilibrium.specs.Force.{at, concrete_force, layer_force, steel_force, internal_force}
 use Rattle.equilibrium.specs.Force.{concrete_moment, layer_moment, steel_resistance, moment_resistance}
 use Rattle.equilibrium.specs.Refusals.{carries, up_to_10h, reaches, face_tests_of}
@@ -70,21 +69,21 @@ module _ (x : Design) {xs ys : List Layer} (same : Rearranged xs ys) where
 
 module _ {c d : Counted} (same : SameBars c d) where
   module _ (N : ℤ) where
-    abbrev asks : Counted → Accepted → List ℕ
-    asks e a = test 8 (force_ok N) ∷ face_tests_of a e.layers N
+    abbrev asks : Counted → Result Design Refusal → List (Option Refusal)
+    asks e a = test AxialForce (force_ok N) ∷ face_tests_of a e.layers N
 
-    asks_same : (a : Accepted) → asks c a ≡ asks d a
-    asks_same (section.Ready x) = rw (carries_same x same.layers N, reaches_same x same.layers N)
-    asks_same (section.Refused k) = refl
+    asks_same : (a : Result Design Refusal) → asks c a ≡ asks d a
+    asks_same (Ok x) = rw (carries_same x same.layers N, reaches_same x same.layers N)
+    asks_same (Err r) = refl
 
     pub find_same : depth_in c N ≡ depth_in d N
     unfolding depth_in
-    find_same = call_same same Refused (λ e. depth_of e.layers N) asks (λ x. depth_same x same.layers N) asks_same
+    find_same = call_same same (λ e. depth_of e.layers N) asks (λ x. depth_same x same.layers N) asks_same
 
   module _ (u : ℕ) where
     pub moment_same : moment_in c u ≡ moment_in d u
     unfolding moment_in
     moment_same =
-        call_same same moment.Refused (λ e x. moment.Of (resistance_at x e.layers u))
-        (λ e a. test 13 (leb 1 u && leb u (30 * nat_abs e.height)) ∷ [])
-        (λ x. ap moment.Of (resistance_same x same.layers u)) (λ a. rw same.height)
+        call_same same (λ e x. resistance_at x e.layers u)
+        (λ e a. test DepthRange (leb 1 u && leb u (30 * nat_abs e.height)) ∷ [])
+        (λ x. resistance_same x same.layers u) (λ a. rw same.height)

@@ -20,8 +20,8 @@ use Rattle.section.specs.Section.{all, depth_ok, area_ok}
 use Rattle.beyond.specs.Code.Whole.{block_moment}
 use Rattle.equilibrium.specs.Force.{at, layer_moment}
 use Rattle.section.specs.Code.Usable.{Bounded, LayerOk, Usable}
-use Rattle.section.specs.Code.Columns.{area_sum}
-use Rattle.equilibrium.specs.Code.Whole.{DepthOk, lift_at, stress_at, lift_sum, rest_at, excess, BlockBounds, LiftBounds, Trial}
+use Rattle.section.specs.Code.Accepted.{area_sum}
+use Rattle.equilibrium.specs.Code.Whole.{DepthOk, lift_at, stress_at, lift_sum, rest_at, excess, BlockBounds}
 use Rattle.section.proofs.OneLayer.{steel-high, layer-ok}
 use Rattle.equilibrium.proofs.Whole.{layer-floor}
 
@@ -30,6 +30,11 @@ pub depth_most : {x : Design} {u : ℕ} → Bounded x → DepthOk x u → u ≤ 
 depth_most b d = omega (arith, b.h-high, d.high)
 
 -- ---- the lift
+
+pub record LiftBounds (x : Design) (u d : ℕ) : Type 0 where
+  pub bounded : Bounded x
+  pub u-high : u ≤ 20000
+  pub d_high : d ≤ 2000
 
 pub record LiftSizes (x : Design) (u d : ℕ) : Type 0 where
   pub climb : (100 * x.m.e + x.m.s) * u ≤ 130000 * 20000
@@ -93,15 +98,14 @@ rest_in {x} {steel} b h n =
     add-in (mul_in (lit (pos 80000)) n) tension
 
 -- 80,000·u times what the force exceeds N by
-pub excess-in : {x : Design} {n : ℕ} {ls : List Layer} {steel : ℕ} {N : ℤ} {u : ℕ} → Trial x n ls steel N → u ≤ 20000
+pub excess-in : {x : Design} {n : ℕ} {ls : List Layer} {N : ℤ} {u : ℕ} → Usable x n ls → Within N 500000000 → u ≤ 20000
     → Within (excess x ls N u) 2028800000000000000
 unfolding excess
-excess-in {x} {ls = ls} {u = u} t h =
-    let w = t.usable in
+excess-in {x} {ls = ls} {u = u} w load h =
     let concrete : Within (pos (x.m.f * x.m.l * x.b * u)) 15360000000000 = record { within = mul-le-mul (concrete-high w.bounded) h } in
     let depth : Within (pos u) 20000 = record { within = h } in
     let lift : Within (pos (800 * lift_sum x ls u)) 614400000000000000 = record { within = mul-le-mul_left 800 (lift_sum_high w h) } in
-    add-in (mul_in (sub_in concrete (rest_in w.bounded (area-high w) t.load)) depth) lift
+    add-in (mul_in (sub_in concrete (rest_in w.bounded (area-high w) load)) depth) lift
 
 -- ---- the moment of a layer, by the bounds of its factors
 

@@ -20,7 +20,7 @@ use Rattle.section.specs.declared.Design.{Design}
 use Rattle.equilibrium.specs.Force.{at, concrete_force, stress, layer_force, steel_force, internal_force, concrete_moment, layer_moment}
 use Rattle.beyond.specs.Code.Whole.{block_moment}
 use Rattle.equilibrium.specs.Refusals.{carries, up_to_10h}
-use Rattle.section.specs.Code.Columns.{area_sum}
+use Rattle.section.specs.Code.Accepted.{area_sum}
 use Rattle.equilibrium.specs.Code.Whole.{lifted, lift_at, stress_at, lift_sum, excess}
 use Rattle.equilibrium.proofs.Rising.{at_positive, force_proper}
 use Rattle.equilibrium.proofs.Nearness.{concrete-moment_proper, layer-moment_proper}

@@ -1,14 +1,13 @@
 -- The accuracy statement, demand 3 of document 01; by 02's ticket 11 it "keeps to depths up to 10h". Assumes nothing.
-use Rattle.std.specs.Prelude.{ℕ, ◌+◌, ◌*◌, ◌≤◌, ◌<◌, false, List, ◌≡◌, ℤ, length}
-use Rattle.arith.specs.Chain.{OneOf}
+use Rattle.std.specs.Prelude.{ℕ, ◌+◌, ◌*◌, ◌≤◌, ◌<◌, false, List, ◌≡◌, ℤ, length, Result, Ok, Err}
+use Rattle.refusals.specs.Chain.{OneOf}
+use Rattle.refusals.specs.declared.Refusal.{Refusal}
 use Rattle.arith.specs.Fraction.{Fraction, Proper, Ratio, whole, integer, ratio, ◌+ᶠ◌, ◌-ᶠ◌, ◌*ᶠ◌, ◌/ᶠ◌, ◌≤ᶠ◌, ◌<ᶠ◌, DifferAtMost}
 use Rattle.section.specs.declared.Layer.{Layer}
 use Rattle.section.specs.declared.Section.{Section}
 use Rattle.section.specs.declared.Design.{Design}
-use Rattle.section.specs.declared.Accepted.{Accepted}
-use Rattle.section.specs.declared.Accepted.TheVariants as section
 use Rattle.equilibrium.specs.declared.Depth.{Depth}
-use Rattle.equilibrium.specs.declared.Depth.TheVariants.{At, Beyond, Refused}
+use Rattle.equilibrium.specs.declared.Depth.TheVariants.{At, Beyond}
 use Rattle.section.specs.Section.{counted}
 use Rattle.section.specs.Refusals.{accepted}
 use Rattle.equilibrium.specs.Refusals.{up_to_10h, face_refusals}
@@ -53,19 +52,19 @@ pub record DepthPromise (x : Design) (ls : List Layer) (N : ℤ) (u : ℕ) : Typ
   pub over : 10 * x.h < u → up_to_10h x ls N ≡ false
 
 -- by cases of the answer: a depth of its kind; or 11 or 12
-abbrev pub PromisedDepth : Design → List Layer → ℤ → Depth → Type 0
-PromisedDepth x ls N (At u trials) = (u ≤ 10 * x.h) × DepthPromise x ls N u
-PromisedDepth x ls N (Beyond u) = (10 * x.h < u) × DepthPromise x ls N u
-PromisedDepth x ls N (Refused k) = OneOf face_refusals k
+abbrev pub PromisedDepth : Design → List Layer → ℤ → Result Depth Refusal → Type 0
+PromisedDepth x ls N (Ok (At u trials)) = (u ≤ 10 * x.h) × DepthPromise x ls N u
+PromisedDepth x ls N (Ok (Beyond u)) = (10 * x.h < u) × DepthPromise x ls N u
+PromisedDepth x ls N (Err r) = OneOf face_refusals r
 
 -- Of Find a depth: a depth up to 10h that is answered is accurate, with the moment that Moment at a depth answers for the same section
 -- and u; of one beyond 10h nothing is said; and only an accepted section has one.
-abbrev pub AccurateFound : Section → ℤ → Accepted → Depth → Type 0
-AccurateFound s N (section.Ready x) (At u trials) = Accurate x (counted s).layers N u (moment_found (moment_at s u))
-AccurateFound s N (section.Refused k) (At u trials) = ⊥
-AccurateFound s N (section.Ready x) (Beyond u) = Unit {0}
-AccurateFound s N (section.Refused k) (Beyond u) = ⊥
-AccurateFound s N a (Refused k) = Unit {0}
+abbrev pub AccurateFound : Section → ℤ → Result Design Refusal → Result Depth Refusal → Type 0
+AccurateFound s N (Ok x) (Ok (At u trials)) = Accurate x (counted s).layers N u (moment_found (moment_at s u))
+AccurateFound s N (Err r) (Ok (At u trials)) = ⊥
+AccurateFound s N (Ok x) (Ok (Beyond u)) = Unit {0}
+AccurateFound s N (Err r) (Ok (Beyond u)) = ⊥
+AccurateFound s N a (Err r) = Unit {0}
 
-abbrev pub AccurateDepth : Section → ℤ → Depth → Type 0
+abbrev pub AccurateDepth : Section → ℤ → Result Depth Refusal → Type 0
 AccurateDepth s N r = AccurateFound s N (accepted (counted s)) r

@@ -4,35 +4,32 @@
 
 mod balance;
 mod guess;
+mod load;
 pub mod resistance;
-pub mod search;
+mod search;
 
 ghost use Rattle.std.specs.Prelude.{◌≤◌, ◌≡◌};
-ghost use Rattle.arith.specs.Chain.{first_failing};
+ghost use Rattle.std.specs.Result.{result_err};
+ghost use Rattle.refusals.specs.Chain.{first_failing};
 ghost use Rattle.section.specs.Section.{counted};
 ghost use Rattle.equilibrium.specs.Refusals.{find_depth_tests, moment_tests};
 ghost use Rattle.equilibrium.specs.Depth as depth;
 ghost use Rattle.equilibrium.specs.Depth.{find_depth};
-ghost use Rattle.equilibrium.specs.Moment as moment;
 ghost use Rattle.equilibrium.specs.Moment.{moment_at};
 ghost use Rattle.equilibrium.specs.Accuracy.{AccurateDepth};
 
-use section::{Accepted, Section, columns, refusals};
+pub use balance::carries_at_one;
+pub use load::Loaded;
+use refusals::Refusal;
+use section::Section;
+use section::acceptance::{accept, force_ok};
 
 // The depth of the neutral axis, in tenths of a millimetre from the compressed face: up to 10h, with the number of trials that the halving rule of
-// document 02's ticket 12 takes to it; or beyond 10h, where the section is compressed over its full height; or why there is none.
+// document 02's ticket 12 takes to it; or beyond 10h, where the section is compressed over its full height.
 #[derive(Clone, Copy)]
 pub enum Depth {
     At(u64, u64),
     Beyond(u64),
-    Refused(u8),
-}
-
-// A moment resistance in N·mm, or why there is none.
-#[derive(Clone, Copy)]
-pub enum Moment {
-    Of(i64),
-    Refused(u8),
 }
 
 // Find a depth, with the top compressed: the greatest u from 1 to 10h tenths of a millimetre at which the internal force is at most N; for N
@@ -40,52 +37,26 @@ pub enum Moment {
 // trials of the halving rule; refusals and depths beyond 10h report 0 (`trials_found`).
 // Refusals: the section tests, 8 N out of range, 11 N below the internal force at depth 1, 12 no u up to 30h reaches N.
 // The sequence of the layers makes no difference: law `rearranged_find` (02's ticket 2).
-pub fn find_depth(s: Section, n: i64) -> Depth
+pub fn find_depth(s: Section, n: i64) -> Result<Depth, Refusal>
     ensures value { result ≡ find_depth s n }
-    ensures refusal { depth.refusal_number result ≡ first_failing (find_depth_tests (counted s) n) }
+    ensures refusal { result_err result ≡ first_failing (find_depth_tests (counted s) n) }
     ensures accurate { AccurateDepth s n result }
     ensures never_exceeds_15 { depth.trials_found result ≤ 15 }
 {
-    let layers = s.layers;
-    let grade = s.grade;
-    let count = s.count;
-    let mut depths = [0u32; 16];
-    let mut areas = [0u32; 16];
-    columns::take_apart(layers, &mut depths, &mut areas);
-    match refusals::accept(s.width, s.height, grade, count, &depths, &areas) {
-        Accepted::Refused(k) => Depth::Refused(k),
-        Accepted::Ready(x) => {
-            if refusals::force_ok(n) {
-                let steel = columns::steel_area(count, &areas);
-                search::depth_for(x, count, &depths, &areas, steel, n)
-            } else {
-                Depth::Refused(8)
-            }
-        }
-    }
+    let face = accept(&s)?;
+    Refusal::AxialForce.unless(force_ok(n))?;
+    let loaded = Loaded { face: &face, n };
+    loaded.depth()
 }
 
-// Moment at a depth, with the top compressed: the moment resistance at u tenths of a millimetre.
-// Refusals: the section tests, and 13 where u is not in 1 to 30h.
+// Moment at a depth, with the top compressed: the moment resistance at u tenths of a millimetre, in N·mm.
+// Refusals: the section tests, and 13 where u is not in 1 to 30h (two comparisons, as the test has them: a range is no plainer).
 // The sequence of the layers makes no difference: law `rearranged_moment`.
-pub fn moment_at(s: Section, u: u64) -> Moment
+pub fn moment_at(s: Section, u: u64) -> Result<i64, Refusal>
     ensures value { result ≡ moment_at s u }
-    ensures refusal { moment.refusal_number result ≡ first_failing (moment_tests (counted s) u) }
+    ensures refusal { result_err result ≡ first_failing (moment_tests (counted s) u) }
 {
-    let layers = s.layers;
-    let grade = s.grade;
-    let count = s.count;
-    let mut depths = [0u32; 16];
-    let mut areas = [0u32; 16];
-    columns::take_apart(layers, &mut depths, &mut areas);
-    match refusals::accept(s.width, s.height, grade, count, &depths, &areas) {
-        Accepted::Refused(k) => Moment::Refused(k),
-        Accepted::Ready(x) => {
-            if arith::both(1 <= u, u <= 30 * x.h) {
-                Moment::Of(resistance::moment_resistance(x, count, &depths, &areas, u))
-            } else {
-                Moment::Refused(13)
-            }
-        }
-    }
+    let face = accept(&s)?;
+    Refusal::DepthRange.unless(1 <= u && u <= 30 * face.design.h)?;
+    Ok(resistance::moment_resistance(&face, u))
 }

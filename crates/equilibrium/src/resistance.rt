@@ -1,101 +1,89 @@
 // The stress of the layers and the moment resistance MRd at a whole depth: document 01, "Equilibrium". Beyond 10h a layer's moment is that of 02's
-// ticket 11; the block and the sum over the layers are the same.
+// ticket 11; the block and the sum over the layers are the same. Each `as` is proved not to lose; i64::try_from would add an exit that never comes.
 ghost use Rattle.std.specs.Prelude.{◌*◌, ◌≤◌, ◌≡◌, pos};
 ghost use Rattle.arith.specs.Fraction.{floor};
-ghost use Rattle.section.specs.Code.Usable.{Bounded, LayerOk, Usable};
+ghost use Rattle.section.specs.Code.Accepted.{layers_in};
+ghost use Rattle.section.specs.Code.Usable.{Bounded, LayerOk};
 ghost use Rattle.beyond.specs.Code.Whole.{block_moment};
 ghost use Rattle.equilibrium.specs.Force.{at, layer_moment};
 ghost use Rattle.equilibrium.specs.Moment.{resistance_at};
-ghost use Rattle.section.specs.Code.Columns.{layers_in};
-ghost use Rattle.equilibrium.specs.Code.Whole.{DepthOk, DepthRange, lifted, lift_at, layer_moment_at, steel_at, BlockBounds, LiftBounds};
+ghost use Rattle.equilibrium.specs.Code.Whole.{DepthRange, lift_at, layer_moment_at, BlockBounds};
 
-use section::Design;
+use section::{Accepted, Design, Layer};
 
-// climb − start, held between 0 and most.
-fn lift(climb: u64, most: u64, start: u64) -> u64
-    ensures { result ≡ lifted climb most start }
-{
-    if climb <= start {
-        return 0;
+// A section whose neutral axis lies at the depth u, at most 10h of the greatest h. (That beyond 10h is `beyond::force::Strained`: other formulas and
+// another range.) A layer's stress is counted from the least, −s/100.
+#[derive(Clone, Copy)]
+pub struct Strained<'a> {
+    pub design: &'a Design,
+    pub u: u64,
+    pub ghost bounded: { Bounded design.now },
+    pub ghost u_high: { u ≤ 20000 },
+}
+
+impl Strained<'_> {
+    // 100·u times what the stress at a depth lies above −s/100: E·(u − 10d)/u, held within ±s/100, and moved up by s/100.
+    fn lift(&self, depth: u32) -> u64
+        requires { depth ≤ 2000 }
+        ensures { result ≡ lift_at self.now.design.now self.now.u depth }
+    {
+        let m = &self.design.m;
+        let climb = (100 * m.e + m.s) * self.u;
+        let start = 1000 * m.e * u64::from(depth);
+        climb.saturating_sub(start).min(2 * m.s * self.u)
     }
-    let y = climb - start;
-    if y < most { y } else { most }
-}
 
-// 100·u times what the stress at a depth lies above −s/100: E·(u − 10d)/u, held within ±s/100, and moved up by s/100.
-fn lift_at(x: Design, u: u64, depth: u32) -> u64
-    requires { LiftBounds x u depth }
-    ensures { result ≡ lift_at x u depth }
-{
-    lift(
-        (100 * x.m.e + x.m.s) * u,
-        2 * x.m.s * u,
-        1000 * x.m.e * depth as u64,
-    )
-}
+    // A layer's area times its lift.
+    pub fn layer_lift(&self, l: &Layer) -> u64
+        requires { (l.now.depth ≤ 2000) × (l.now.area ≤ 20000) }
+        ensures { result ≡ l.now.area * lift_at self.now.design.now self.now.u l.now.depth }
+    {
+        u64::from(l.area) * self.lift(l.depth)
+    }
 
-// A layer's area times its lift.
-pub fn layer_lift(x: Design, u: u64, depth: u32, area: u32) -> u64
-    requires { LiftBounds x u depth × (area ≤ 20000) }
-    ensures { result ≡ area * lift_at x u depth }
-{
-    area as u64 * lift_at(x, u, depth)
+    // A layer's moment up to 10h, rounded down by itself: A·(100u·stress)·(h − 2d)/200u. (`LayerOk` by a clause, as in beyond's force.rt.)
+    fn layer_moment(&self, l: &Layer) -> i64
+        requires { (1 ≤ self.now.u) × LayerOk self.now.design.now.h l.now }
+        ensures { result ≡ floor (layer_moment self.now.design.now l.now (at self.now.u)) }
+    {
+        let stress = self.lift(l.depth) as i64 - (self.design.m.s * self.u) as i64;
+        let arm = self.design.h as i64 - 2 * i64::from(l.depth);
+        arith::floor_div(i64::from(l.area) * stress * arm, 200 * self.u as i64)
+    }
 }
 
 // The moment of the concrete, rounded down, for a block of the depth k in 1/800 mm: k is L·u, at most 800h. So ordered, no product is
 // above 64 bits, as k·(800h − k) is at most (400h)².
-fn concrete_moment(f: u64, b: u64, h: u64, k: u64) -> i64
-    requires { BlockBounds f b h k }
-    ensures { result ≡ pos (block_moment f b h k) }
+#[tactic(auto, using(crate::proofs::Sizes::block_sizes))]
+fn concrete_moment(x: &Design, k: u64) -> i64
+    requires { BlockBounds x.now.m.f x.now.b x.now.h k }
+    ensures { result ≡ pos (block_moment x.now.m.f x.now.b x.now.h k) }
 {
-    (f * b * (k * (800 * h - k)) / 128000000) as i64
+    (x.m.f * x.b * (k * (800 * x.h - k)) / 128000000) as i64
 }
 
-// A layer's moment up to 10h, rounded down by itself: A·(100u·stress)·(h − 2d)/200u.
-fn layer_moment(x: Design, depth: u32, area: u32, u: u64) -> i64
-    requires { Bounded x × (DepthOk x u × LayerOk x.h (record { depth = depth; area = area })) }
-    ensures { result ≡ floor (layer_moment x (record { depth = depth; area = area }) (at u)) }
-{
-    let stress = lift_at(x, u, depth) as i64 - (x.m.s * u) as i64;
-    let arm = x.h as i64 - 2 * depth as i64;
-    arith::floor_div(area as i64 * stress * arm, 200 * u as i64)
-}
-
-// A layer's moment at a depth up to 30h, by the page that it belongs to.
-fn layer_moment_at(x: Design, depth: u32, area: u32, u: u64) -> i64
-    requires { Bounded x × (DepthRange x u × LayerOk x.h (record { depth = depth; area = area })) }
-    ensures { result ≡ layer_moment_at x (record { depth = depth; area = area }) u }
+// A layer's moment at a depth up to 30h, by the page that it belongs to. (By clauses: it makes one of two `Strained`, and the layer is one of many.)
+fn layer_moment_at(x: &Design, l: &Layer, u: u64) -> i64
+    requires { Bounded x.now × (DepthRange x.now u × LayerOk x.now.h l.now) }
+    ensures { result ≡ layer_moment_at x.now l.now u }
 {
     if u <= 10 * x.h {
-        return layer_moment(x, depth, area, u);
+        Strained { design: x, u }.layer_moment(l)
+    } else {
+        beyond::force::Strained { design: x, u }.layer_moment(l)
     }
-    beyond::force::layer_moment(x, depth, area, u)
 }
 
-fn steel_resistance(x: Design, count: usize, depths: &[u32; 16], areas: &[u32; 16], u: u64) -> i64
-    requires { Usable x count (layers_in count depths.now areas.now) × DepthRange x u }
-    ensures { result ≡ steel_at x (layers_in count depths.now areas.now) u }
+// MRd of an accepted section at a depth up to 30h. (The range is asked of a bare number here and by the two that call it: a struct for a depth and
+// its section would be made for one call.)
+pub fn moment_resistance(face: &Accepted, u: u64) -> i64
+    requires { DepthRange face.now.design u }
+    ensures { result ≡ resistance_at face.now.design (layers_in face.now) u }
 {
-    let mut sum: i64 = 0;
-    let mut i: usize = 0;
-    while i < count {
-        sum += layer_moment_at(x, depths[i], areas[i], u);
-        i += 1;
+    let x = &face.design;
+    let mut sum = concrete_moment(x, beyond::force::block_at(x, u));
+    for l in face.layers() {
+        sum += layer_moment_at(x, l, u);
     }
     sum
-}
-
-// MRd of the layers in two columns.
-pub fn moment_resistance(
-    x: Design,
-    count: usize,
-    depths: &[u32; 16],
-    areas: &[u32; 16],
-    u: u64,
-) -> i64
-    requires { Usable x count (layers_in count depths.now areas.now) × DepthRange x u }
-    ensures { result ≡ resistance_at x (layers_in count depths.now areas.now) u }
-{
-    let k = beyond::force::block_at(x, u);
-    concrete_moment(x.m.f, x.b, x.h, k) + steel_resistance(x, count, depths, areas, u)
 }

@@ -5,8 +5,7 @@ use native.Mathlib.Nat.{le_refl, le_of_lt, mul-le-mul, mul-le-mul_left}
 use native.Mathlib.Omega.{arith}
 use Rattle.arith.proofs.Floor.{quotients}
 use Rattle.arith.proofs.Fraction.{exchange, sides}
-use Rattle.links.specs.declared.Truss.{Truss}
-use Rattle.links.specs.Links.{link_resistance, strut_resistance}
+use Rattle.links.specs.Links.{Truss, link_resistance, strut_resistance}
 use Rattle.links.specs.Code.Ranges.{TrussBounds}
 use Rattle.links.proofs.Whole.{link_is, strut_is}
 

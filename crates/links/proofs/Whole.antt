@@ -9,8 +9,7 @@ use Rattle.arith.specs.Fraction.{Same, whole, ratio, reciprocal, ◌-ᶠ◌, ◌
 use Rattle.arith.proofs.Fraction.{tidy, proper, Positive, ÷ᶠ-proper}
 use Rattle.arith.proofs.Greatest.{first-greatest}
 use Rattle.arith.proofs.Quotient.{per, rounded_same, times-test}
-use Rattle.links.specs.declared.Truss.{Truss}
-use Rattle.links.specs.Links.{lever, ν, cotangent, link_resistance, strut_resistance, strut_cotangent, BestCotangent, spacing_ok, square, ratio_ok}
+use Rattle.links.specs.Links.{Truss, lever, ν, cotangent, link_resistance, strut_resistance, strut_cotangent, BestCotangent, spacing_ok, square, ratio_ok}
 
 -- ---- the resistances
 

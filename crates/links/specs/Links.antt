@@ -4,7 +4,17 @@
 use Rattle.std.specs.Prelude.{ℕ, ◌*◌, min, Bool}
 use Rattle.arith.specs.Fraction.{Fraction, Ratio, whole, ratio, reciprocal, ◌-ᶠ◌, ◌*ᶠ◌, ◌/ᶠ◌, ◌÷ᶠ◌, ◌+ʳ◌, at_most, rounded_down}
 use Rattle.arith.specs.Greatest.{first_greatest, IsFirstGreatest}
-use Rattle.links.specs.declared.Truss.{Truss}
+
+-- all that these clauses ask
+pub record Truss : Type 0 where
+  pub b : ℕ
+  pub fck : ℕ
+  pub fyk : ℕ
+  pub g : ℕ
+  pub s : ℕ
+  pub dm : ℕ
+  pub area : ℕ
+  pub spacing : ℕ
 
 -- the lever arm z: 0.9·dm
 abbrev pub lever : Truss → Fraction

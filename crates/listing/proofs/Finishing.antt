@@ -1,28 +1,17 @@
 -- Writing one text after another into a buffer. Assumes nothing.
-use mathlib.Core.Path.{◌≡◌, refl, sym, ap, ap₂, ◌∙◌}
-use mathlib.Core.Bool.{true, false}
+use mathlib.Core.Path.{◌≡◌, refl, ap, ap₂, ◌∙◌}
 use mathlib.Core.List.{List, [], ◌∷◌, ◌++◌}
-use Prim.Native.Nat.{ℕ, ◌+◌, ◌≤◌, ◌<◌}
-use native.Mathlib.Nat.{zero-add}
+use Prim.Native.Nat.{ℕ, ◌+◌, ◌≤◌}
 use native.Mathlib.Numerals.{add-one}
 use native.Mathlib.Omega.{arith}
-use lib.Dec.{leb}
-use lib.ListN.{length, take, drop, set, length-append}
-use lib.Seq.{set_split}
+use lib.ListN.{length, length-append}
 use Rattle.record.specs.Bytes.{placed}
 use Rattle.record.proofs.Lent.{placed_none, placed_more, length-placed}
 use Rattle.clauses.specs.declared.Listed.{Listed}
 use Rattle.record.specs.declared.Reading.{Reading}
-use Rattle.record.specs.declared.Written.{Written}
 use Rattle.listing.specs.Line.{line}
 use Rattle.listing.specs.Records.{answer_of, lines}
 use Rattle.listing.specs.Code.Buffer.{Put}
-use Rattle.listing.specs.Answers.{text_written, text_buffer}
-
--- one byte
-pub stored : (xs : List ℕ) (at b : ℕ) → at < length xs → Put xs at (b ∷ []) (set xs at b) (at + 1)
-unfolding placed
-stored xs at b h = record { end = refl; bytes = set_split xs at b h ∙ ap (λ (k : ℕ). take at xs ++ (b ∷ drop k xs)) (sym (add-one at)) }
 
 -- the same text
 pub same_text : {xs ys : List ℕ} {at next : ℕ} {s t : List ℕ} → s ≡ t → Put xs at s ys next → Put xs at t ys next
@@ -75,14 +64,3 @@ pub line_first : {xs ys whole : List ℕ} {at j : ℕ} {a : Listed} {r : Reading
     → Left xs at whole ys j (lines k rs) → Left xs at whole ys j (line k a ++ lines (k + 1) rest)
 unfolding lines
 line_first k e is l = rw (add-one, is) (rw e at l)
-
--- ---- a text that is put at the start of a buffer which has room for it, and one that is not
-module _ (room : ℕ) (text buffer : List ℕ) where
-  abbrev Answered : Written → List ℕ → Type 0
-  Answered r ys = (r ≡ text_written room text buffer) × (ys ≡ text_buffer room text buffer)
-
-  pub put_whole : {ys : List ℕ} {n : ℕ} → leb room (length buffer) ≡ true → Put buffer 0 text ys n → Answered (record { refusal = 0; length = n }) ys
-  put_whole e p = (rw e (ap (λ (k : ℕ). record { refusal = 0; length = k }) (p.end ∙ zero-add (length text))), rw e p.bytes)
-
-  pub put_none : leb room (length buffer) ≡ false → Answered (record { refusal = 25; length = 0 }) buffer
-  put_none e = (rw e, rw e)

@@ -1,32 +1,32 @@
 -- What Check answers, whatever the section and the load: each number fits the machine's. Assumes nothing.
-use Prim.Native.Nat.{ℕ, zero, suc, ◌^◌, ◌≤◌, ◌<◌}
+use Prim.Native.Nat.{ℕ, ◌^◌, ◌≤◌, ◌<◌}
 use mathlib.Core.Bool.{Bool, true, false, cond}
-use mathlib.Core.List.{List, ◌∷◌}
+use mathlib.Core.List.{List}
 use mathlib.Core.Path.{◌≡◌, refl, sym}
 use native.Mathlib.Nat.{le_trans}
 use native.Mathlib.Omega.{arith}
-use lib.Dec.{T, leb, ltb, ltb→lt, lit<, lit≤}
+use lib.Dec.{leb, lit<, lit≤}
 use lib.IntN.{ℤ, pos, negsuc, nat_abs, ◌+ℤ◌}
 use lib.Signed.{le_z}
-use Rattle.arith.specs.Chain.{first_failing, OneOf}
+use Rattle.std.specs.Prelude.{Option, None, Some, Result, Ok, Err}
+use Rattle.refusals.specs.declared.Refusal.{Refusal}
+use Rattle.refusals.specs.Chain.{first_failing}
+use Rattle.refusals.specs.Number as refusals
+use Rattle.refusals.proofs.Number.{number_small}
 use Rattle.arith.proofs.Bound.{abs-add}
-use Rattle.arith.proofs.Chain.{passes}
-use Rattle.arith.specs.Every.{every}
 use Rattle.arith.specs.Integer.{Within}
 use Rattle.section.specs.declared.Layer.{Layer}
 use Rattle.section.specs.declared.Section.{Section}
 use Rattle.section.specs.declared.Links.{Links}
 use Rattle.section.specs.declared.Load.{Load}
 use Rattle.section.specs.declared.Design.{Design}
-use Rattle.section.specs.declared.Accepted.{Accepted}
-use Rattle.section.specs.declared.Accepted.TheVariants as section
 use Rattle.section.specs.Section.{layers_of, counted, links_of}
-use Rattle.section.specs.Refusals.{accepted, load_link_tests, section_refusals, load_link_refusals}
+use Rattle.section.specs.Refusals.{accepted, load_link_tests}
 use Rattle.section.specs.Code.Usable.{Usable, LoadOk}
 use Rattle.section.specs.Turned.{turned}
 use Rattle.equilibrium.specs.Moment.{resistance_at}
 use Rattle.equilibrium.specs.Code.Whole.{DepthRange}
-use Rattle.section.proofs.Usable.{section_promise, usable_by, load_link_one_of, load-links-ok}
+use Rattle.section.proofs.Usable.{usable_by, load-links-ok}
 use Rattle.section.proofs.Turned.{usable_turned}
 use Rattle.equilibrium.proofs.Range.{range_most, resistance_in}
 use Rattle.shear.specs.Shear.{Sheared, concrete_share, axial_share, or_zero, VRdc}
@@ -36,7 +36,6 @@ use Rattle.shear.proofs.Roots.{concrete-high, c-in, axial-in}
 use Rattle.clauses.specs.declared.Face.{Face}
 use Rattle.verdicts.specs.declared.Verdict.{Verdict}
 use Rattle.verdicts.specs.declared.Verdict.TheVariants.{Pass, Fail, NotReached}
-use Rattle.clauses.specs.declared.Checked.TheVariants.{Done}
 use Rattle.verdicts.specs.Verdicts.{number_of, first, second, third, fourth, fifth, sixth}
 use Rattle.clauses.specs.Linked.{truss_of, reaches_links, link_report, no_link_report, linked_report}
 use Rattle.verdicts.specs.Tension.{area_of, As, dm}
@@ -45,15 +44,6 @@ use Rattle.verdicts.proofs.Layers.{counts, As-high, dm-high}
 use Rattle.clauses.proofs.Laws.{stress-in}
 use Rattle.clauses.proofs.Checking.{check_refused, load_refused, load_passed, faces_cases}
 use Rattle.listing.proofs.Longest.{Fitting}
-
--- ---- refusals have at most three digits
-
--- one of numbers that are all so small
-small : (ns : List ℕ) {k : ℕ} → T (every (λ n. ltb n 256) ns) → OneOf ns k → k < 256
-small ns {k} all m = ltb→lt k 256 (passes (λ n. ltb n 256) ns all m)
-
-load-small : (k : Links) (l : Load) → first_failing (load_link_tests k l) < 256
-load-small k l = small (0 ∷ load_link_refusals) tt (load_link_one_of k l)
 
 -- ---- the answer of Check
 
@@ -99,17 +89,17 @@ digit_of Fail = lit< tt
 digit_of NotReached = lit< tt
 
 -- the sixth too
-sixth-digit : (x : Design) (k : Links) (v : ℤ) (As dm : ℕ) → (linked_report x k v As dm).verdict < 10
+sixth-digit : (x : Design) (k : Links) (v : ℤ) (As dm : ℕ) → number_of (linked_report x k v As dm).verdict < 10
 unfolding linked_report
 sixth-digit x k v As dm = go (reaches_links k As)
   where
-    go : (t : Bool) → (cond t (link_report (truss_of x k dm) v) no_link_report).verdict < 10
+    go : (t : Bool) → number_of (cond t (link_report (truss_of x k dm) v) no_link_report).verdict < 10
     go true = digit_of (sixth (truss_of x k dm) v)
     go false = lit< tt
 
 -- what is reported of a face, whose layers are ls
 report-fits : {x : Design} {count : ℕ} (ls : List Layer) (k : Links) (l : Load) (face other : Face) (v : Verdict) → Usable x count ls → LoadOk l
-    → DepthRange x face.u → Within face.mrd 7000000000000000000 → Fitting (listed (Done (report_of x ls k l face other v)))
+    → DepthRange x face.u → Within face.mrd 7000000000000000000 → Fitting (listed (Ok (report_of x ls k l face other v)))
 unfolding report_of
 report-fits {x} ls k l face other v w ok d m =
     let u = face.u in
@@ -153,11 +143,11 @@ module _ {x : Design} {count : ℕ} (ls : List Layer) (k : Links) (l : Load) (w 
   below = turned x.h ls
 
   -- whichever face M compresses
-  either-fits : (t b : ℕ) → DepthRange x t → DepthRange x b → Fitting (listed (Done (report_at x k l ls below t b)))
+  either-fits : (t b : ℕ) → DepthRange x t → DepthRange x b → Fitting (listed (Ok (report_at x k l ls below t b)))
   unfolding report_at
   either-fits t b d e = go (le_z (pos 0) l.m)
     where
-      go : (z : Bool) → Fitting (listed (Done (report_of x (cond z ls below) k l (cond z (face_at x ls t) (face_at x below b))
+      go : (z : Bool) → Fitting (listed (Ok (report_of x (cond z ls below) k l (cond z (face_at x ls t) (face_at x below b))
           (cond z (face_at x below b) (face_at x ls t)) (first l.m (resistance_at x ls t) (resistance_at x below b)))))
       go true = report-fits ls k l _ _ _ w ok d (resistance_in w d)
       go false = report-fits below k l _ _ _ (usable_turned ls w) ok e (resistance_in (usable_turned ls w) e)
@@ -167,14 +157,18 @@ module _ {x : Design} {count : ℕ} (ls : List Layer) (k : Links) (l : Load) (w 
       faces_cases ls k l w (λ r. Fitting (listed r)) (refused_fits 11 (lit< tt)) (refused_fits 12 (lit< tt))
       (λ t b p q. either-fits t b p.depth q.depth)
 
+-- a refusal has at most three digits
+err_fits : (r : Refusal) → Fitting (refused_listed (refusals.number_of r))
+err_fits r = refused_fits (refusals.number_of r) (number_small r)
+
 pub check_fits : (s : Section) (l : Load) → Fitting (listed (check_of s l))
 check_fits s l = go (accepted (counted s)) refl
   where
-    under : {x : Design} (k : ℕ) → first_failing (load_link_tests (links_of s) l) ≡ k → accepted (counted s) ≡ section.Ready x
+    under : {x : Design} (k : Option Refusal) → first_failing (load_link_tests (links_of s) l) ≡ k → accepted (counted s) ≡ Ok x
         → Fitting (listed (check_of s l))
-    under zero none e = rw (← load_passed s l e none) (faces_fit (layers_of s) (links_of s) l (usable_by s e) (load-links-ok (links_of s) l none).load)
-    under (suc k) some e = rw (← load_refused s l (suc k) e (sym some) (λ z. omega arith)) (refused_fits (suc k) (rw (← some) (load-small (links_of s) l)))
+    under None none e = rw (← load_passed s l e none) (faces_fit (layers_of s) (links_of s) l (usable_by s e) (load-links-ok (links_of s) l none).load)
+    under (Some r) some e = rw (← load_refused s l e (sym some)) (err_fits r)
 
-    go : (a : Accepted) → accepted (counted s) ≡ a → Fitting (listed (check_of s l))
-    go (section.Refused k) e = rw (← check_refused s l e) (refused_fits k (small section_refusals tt (rw e at (section_promise s))))
-    go (section.Ready x) e = under (first_failing (load_link_tests (links_of s) l)) refl e
+    go : (a : Result Design Refusal) → accepted (counted s) ≡ a → Fitting (listed (check_of s l))
+    go (Err r) e = rw (← check_refused s l e) (err_fits r)
+    go (Ok x) e = under (first_failing (load_link_tests (links_of s) l)) refl e

@@ -1,16 +1,17 @@
 -- The records of an input and the text of their list: document 01, "The list". Assumes nothing.
-use Rattle.std.specs.Prelude.{ℕ, zero, suc, ◌+◌, ◌-◌, Bool, cond, List, [], ◌∷◌, ◌++◌, ◌≡◌, eqb, length, drop}
-use Rattle.arith.specs.Chain.{is_one_of}
+use Rattle.std.specs.Prelude.{ℕ, zero, suc, ◌-◌, Bool, cond, List, [], ◌∷◌, ◌++◌, ◌≡◌, eqb, drop}
+use Rattle.refusals.specs.Chain.{is_number_of}
+use Rattle.refusals.specs.declared.Refusal.TheVariants.{MapCut, UnknownField, RecordCut}
 use Rattle.clauses.specs.declared.Listed.{Listed}
 use Rattle.clauses.specs.Check.{refused_listed, listed, check_of}
 use Rattle.record.specs.declared.Reading.{Reading}
 use Rattle.record.specs.Read.{read_of}
-use Rattle.listing.specs.declared.records.Step.{Step}
+use Rattle.listing.specs.declared.records.Records.{Records}
 use Rattle.listing.specs.Line.{line}
 
 -- after 20, 21 or 22 the list ends
 abbrev pub ends : ℕ → Bool
-ends k = is_one_of (20 ∷ 21 ∷ 22 ∷ []) k
+ends k = is_number_of (MapCut ∷ UnknownField ∷ RecordCut ∷ []) k
 
 -- Records back to back: what is read at each place where one begins. The first `rest` bytes still belong to the record
 -- before; a record's own first byte is passed with its line, and its other bytes after that. There is no further record
@@ -26,12 +27,9 @@ readings (suc rest) (x ∷ xs) = readings rest xs
 abbrev pub GoesOn : List ℕ → Type 0
 GoesOn xs = readings 0 xs ≡ read_of xs ∷ cond (ends (read_of xs).refusal) [] (readings 0 (drop (read_of xs).length xs))
 
--- A step of the code that walks over the records: what is read at the place `from`, and the place of the next record, which is the end
--- of the input where the list ends.
-abbrev pub step_at : List ℕ → ℕ → Step
-step_at xs from =
-    let r = read_of (drop from xs) in
-    record { reading = r; next = cond (ends r.refusal) (length xs) (from + r.length) }
+-- The code walks over the records: what it has still to read, where `rest` is what follows the records that are read.
+abbrev pub records_left : Records → List Reading
+records_left s = readings 0 s.rest.now
 
 -- what Check answers for a record that is read, its refusals too; a refused record has zeros and a 2 for each verdict
 abbrev pub answer_of : Reading → Listed

@@ -6,15 +6,13 @@ use clauses::Listed;
 use clauses::numbers::{check_listed, refused_listed};
 use record::Reading;
 
-// A record that is read is checked; one that is refused is not.
-pub fn entry_of(reading: Reading) -> Listed
-    ensures { result ≡ answer_of reading }
+// A record that is read is checked; one that is refused is not. (By the number: `answer_of` is over the
+// `Reading` that C is given.)
+pub fn entry_of(reading: &Reading) -> Listed
+    ensures { result ≡ answer_of reading.now }
 {
-    if reading.refusal == 0 {
-        let section = reading.section;
-        let load = reading.load;
-        check_listed(section, load)
-    } else {
-        refused_listed(reading.refusal)
+    match reading.refusal {
+        0 => check_listed(reading.section, reading.load),
+        refusal => refused_listed(refusal),
     }
 }

@@ -5,9 +5,8 @@
 mod entries;
 mod line;
 mod records;
-mod text;
 
-ghost use Rattle.std.specs.Prelude.{◌≡◌, ◌≤◌, leb, length};
+ghost use Rattle.std.specs.Prelude.{◌≡◌, ◌+◌, ◌≤◌, leb, length};
 ghost use Rattle.listing.specs.Records.{list_of};
 ghost use Rattle.listing.specs.Code.Buffer.{Put, room_for};
 ghost use Rattle.listing.specs.Answers.{text_written, text_buffer, list_written, list_buffer};
@@ -15,24 +14,31 @@ ghost use Rattle.listing.specs.Program.{too_long};
 
 use clauses::numbers::refused_listed;
 use entries::entry_of;
-use line::put_line;
-use record::Written;
-use records::record_at;
+use line::line_of;
+use record::{Written, put};
+use records::Records;
+use refusals::Refusal;
+
+// A text, at the place `at` of `out`; answers the place after it. (A line lies where those before it end.)
+fn put_text(out: &mut [u8], at: usize, text: &[u8]) -> usize
+    requires { at + length text.now ≤ length out.old }
+    ensures { Put out.old at text.now out.new result }
+{
+    put(out, at, text);
+    at + text.len()
+}
 
 // The lines of the records in `input`, at the start of `out`; answers how many bytes they are.
 fn put_list(input: &[u8], out: &mut [u8]) -> usize
     requires { length (list_of input.now) ≤ length out.old }
     ensures { Put out.old 0 (list_of input.now) out.new result }
 {
-    let mut number = 1u64;
-    let mut from = 0usize;
+    let records = Records { rest: input };
     let mut at = 0usize;
-    while from < input.len() {
-        let step = record_at(input, from);
-        let reading = step.reading;
-        at = put_line(out, at, number, entry_of(reading));
-        from = step.next;
-        number += 1;
+    for (before, reading) in records.enumerate() {
+        // `as`, proved not to lose: u64 has no From of usize
+        let line = line_of(before as u64 + 1, &entry_of(&reading));
+        at = put_text(out, at, line.as_bytes());
     }
     at
 }
@@ -41,13 +47,7 @@ fn put_list(input: &[u8], out: &mut [u8]) -> usize
 fn long_enough(n: usize, room: usize) -> bool
     ensures { result ≡ leb (room_for n) room }
 {
-    if room < 48 {
-        return false;
-    }
-    if (room - 48) / 12 < n {
-        return false;
-    }
-    true
+    room.checked_sub(48).is_some_and(|left| n <= left / 12)
 }
 
 // The list of `input`, at the start of `out`: its length; or 25 where `out` is shorter than 12 bytes for each byte of input and 48.
@@ -55,18 +55,10 @@ pub fn list(input: &[u8], out: &mut [u8]) -> Written
     ensures value { result ≡ list_written input.now out.old }
     ensures lent { out.new ≡ list_buffer input.now out.old }
 {
-    if long_enough(input.len(), out.len()) {
-        let length = put_list(input, out);
-        Written {
-            refusal: 0,
-            length: length,
-        }
-    } else {
-        Written {
-            refusal: 25,
-            length: 0,
-        }
+    if !long_enough(input.len(), out.len()) {
+        return Written::from(Err(Refusal::BufferTooShort));
     }
+    Written::from(Ok(put_list(input, out)))
 }
 
 // The one line for an input that is too long, refusal 26 with the number 0, at the start of `out`; or 25 as for an empty list.
@@ -74,16 +66,9 @@ pub fn list_too_long(out: &mut [u8]) -> Written
     ensures value { result ≡ text_written (room_for 0) too_long out.old }
     ensures lent { out.new ≡ text_buffer (room_for 0) too_long out.old }
 {
-    if long_enough(0, out.len()) {
-        let length = put_line(out, 0, 0, refused_listed(26));
-        Written {
-            refusal: 0,
-            length: length,
-        }
-    } else {
-        Written {
-            refusal: 25,
-            length: 0,
-        }
+    if !long_enough(0, out.len()) {
+        return Written::from(Err(Refusal::BufferTooShort));
     }
+    let line = line_of(0, &refused_listed(Refusal::InputTooLong.number()));
+    Written::from(Ok(put_text(out, 0, line.as_bytes())))
 }

@@ -1,42 +1,43 @@
-// The walk over the records of an input. The list goes by it, and so does whatever else takes the same input.
-ghost use Rattle.std.specs.Prelude.{◌≡◌, ◌<◌, length};
-ghost use Rattle.listing.specs.Records.{ends, step_at};
+// The records of an input, back to back. The list goes by them, and so does whatever else takes the same input.
+ghost use Rattle.std.specs.Prelude.{◌≡◌};
+ghost use Rattle.std.specs.Iterator.{YieldsFirst, item_count};
+ghost use Rattle.listing.specs.Records.{ends, records_left};
 
 use record::Reading;
+use record::reader::read;
 
-// What is read of a record, and the place of the next one: the end of the input where the list ends.
+// What follows the records that are read: empty where the list has ended.
 #[derive(Clone, Copy)]
-pub struct Step {
-    pub reading: Reading,
-    pub next: usize,
+pub struct Records<'a> {
+    pub rest: &'a [u8],
 }
 
-// Does the list end after this refusal? No length is known after 20, 21 and 22.
+// Does the list end after this refusal? No length is known after 20, 21 and 22. (By the number: `ends`, of which the
+// laws of the list speak, is over the `Reading` that C is given.)
 fn list_ends(refusal: u64) -> bool
     ensures { result ≡ ends refusal }
 {
-    match refusal {
-        20 | 21 | 22 => true,
-        _ => false,
-    }
+    matches!(refusal, 20 | 21 | 22)
 }
 
-// The record that begins at the place `from`.
-pub fn record_at(input: &[u8], from: usize) -> Step
-    requires { from < length input.now }
-    ensures { result ≡ step_at input.now from }
-{
-    let reading = record::reader::read(&input[from..]);
-    let refusal = reading.refusal;
-    let length = reading.length;
-    if list_ends(refusal) {
-        return Step {
-            reading: reading,
-            next: input.len(),
-        };
-    }
-    Step {
-        reading: reading,
-        next: from + length,
+// What is read of each record in turn.
+impl<'a> Iterator for Records<'a> {
+    type Item = Reading;
+
+    ghost next_gives = { YieldsFirst records_left };
+
+    ghost remaining = { item_count records_left };
+
+    fn next(&mut self) -> Option<Reading> {
+        if self.rest.is_empty() {
+            return None;
+        }
+        let reading = read(self.rest);
+        if list_ends(reading.refusal) {
+            self.rest = &[];
+        } else {
+            self.rest = self.rest.split_at(reading.length).1;
+        }
+        Some(reading)
     }
 }

@@ -1,4 +1,4 @@
--- The clauses of `look_up` that follow from its first: the refusal's number, the numbers with nothing rounded, and the promise, all that a
+-- The clauses of `look_up` that follow from its first: the refusal, the numbers with nothing rounded, and the promise, all that a
 -- part above may use of the materials. Assumes nothing.
 use Prim.Native.Nat.{ℕ, ◌≤◌}
 use mathlib.Core.Bool.{Bool, true, false}
@@ -9,22 +9,24 @@ use native.Mathlib.Omega.{arith}
 use lib.Dec.{T, eqb, leb→le}
 use lib.IntN.{ℤ, pos, negsuc, nat_abs}
 use lib.ListN.{get_or}
-use Rattle.arith.specs.Chain.{test, first_failing}
+use Rattle.std.specs.Prelude.{Option, None, Some, Result}
+use Rattle.std.specs.Result.{result_err}
 use Rattle.arith.specs.Fraction.{whole, ◌-ᶠ◌, ◌*ᶠ◌, ◌/ᶠ◌, ◌÷ᶠ◌, Same, is_same, floor, rounded_down}
 use Rattle.arith.specs.Integer.{in_range}
 use Rattle.arith.proofs.Computed.{between, nth}
 use Rattle.arith.proofs.Fraction.{same_by}
 use Rattle.arith.proofs.Range.{Natural, natural}
 use Rattle.arith.proofs.Test.{and_yes, by_cond}
-use Rattle.materials.specs.declared.Answer.{Answer}
+use Rattle.refusals.specs.declared.Refusal.{Refusal}
+use Rattle.refusals.specs.declared.Refusal.TheVariants.{ConcreteClass, SteelStrength, DesignSituation, LongTermFactor}
+use Rattle.refusals.specs.Chain.{test, first_failing}
 use Rattle.materials.specs.declared.Class.{Class}
 use Rattle.materials.specs.declared.Grade.{Grade}
-use Rattle.materials.specs.declared.Row.{Row}
-use Rattle.materials.specs.declared.Row.TheVariants.{Found, Missing}
+use Rattle.materials.specs.declared.Materials.{Materials}
 use Rattle.materials.specs.Table.{table, find, row_of, in_table}
 use Rattle.materials.specs.Situation.{Situation, persistent, accidental, situation_of, long_term}
 use Rattle.materials.specs.Strength.{depth_factor, L, CRdc, crd}
-use Rattle.materials.specs.Answer.{grade_tests, numbers, answered, materials_in, materials_of, opened, refusal_number, Exact, Bounds, Promised}
+use Rattle.materials.specs.Answer.{grade_tests, numbers, answered, materials_in, materials_of, opened, Exact, Bounds, Promised}
 use Rattle.materials.proofs.Limits.{in_both, limits, ordered, strongest, limited, always_limited, all-limited}
 use Rattle.materials.proofs.Strength.{s-rises}
 use Rattle.materials.proofs.Table.{found}
@@ -37,7 +39,7 @@ in_either p t i = let both = and_yes (p persistent) (p accidental) t in by_cond 
 -- ---- the bounds, from that test and from the law that s rises with fyk
 
 -- in situation i, of a class and an αcc that passed their tests,
-module _ (i k : ℕ) {class : Class} (row : find k table ≡ Found class) {alphacc : ℤ} (x : Natural 80 100 alphacc) where
+module _ (i k : ℕ) {class : Class} (row : find k table ≡ Some class) {alphacc : ℤ} (x : Natural 80 100 alphacc) where
   abbrev pairs : List (ℕ × ℕ)
   pairs = limits (strongest k class (nat_abs alphacc) (situation_of i))
 
@@ -69,13 +71,13 @@ module _ (i k : ℕ) {class : Class} (row : find k table ≡ Found class) {alpha
   }
 
 -- the first of them is of the class alone
-pub class-high : (k : ℕ) {class : Class} → find k table ≡ Found class → k ≤ 90
+pub class-high : (k : ℕ) {class : Class} → find k table ≡ Some class → k ≤ 90
 class-high k row = limit 1 k row (natural 80 100 (pos 100) refl) 0
 
 -- ---- nothing rounded
 
 -- 80 times the depth factor is whole at each class,
-L-whole : (k : ℕ) {class : Class} → find k table ≡ Found class → Same (whole (L k)) (whole 80 *ᶠ depth_factor k)
+L-whole : (k : ℕ) {class : Class} → find k table ≡ Some class → Same (whole (L k)) (whole 80 *ᶠ depth_factor k)
 unfolding whole ◌-ᶠ◌ ◌*ᶠ◌ ◌/ᶠ◌ is_same floor rounded_down depth_factor L
 L-whole k row = same_by (found (λ k c. is_same (whole (L k)) (whole 80 *ᶠ depth_factor k)) k table tt row)
 
@@ -87,28 +89,28 @@ crd-whole i = same_by (in_either (λ j. is_same (whole (crd j)) (whole 100 *ᶠ 
 -- ---- the clauses
 
 -- all that is shown of an answer, the first of whose tests that fails is k
-record Kept (grade : Grade) (k : ℕ) (a : Answer) : Type 0 where
-  number : refusal_number a ≡ k
+record Kept (grade : Grade) (k : Option Refusal) (a : Result Materials Refusal) : Type 0 where
+  refusal : result_err a ≡ k
   exact : Exact grade a
   promised : Promised grade a
 
 -- by cases of the four tests
-kept : (grade : Grade) (fck : ℤ) (row : Row) (steel situation factor : Bool) → grade.fck ≡ fck → row_of fck ≡ row
+kept : (grade : Grade) (fck : ℤ) (row : Option Class) (steel situation factor : Bool) → grade.fck ≡ fck → row_of fck ≡ row
     → in_range (pos 400) (pos 600) grade.fyk ≡ steel → in_range (pos 80) (pos 100) grade.alphacc ≡ factor →
-    let k : ℕ = first_failing (test 3 (in_table row) ∷ test 4 steel ∷ test 32 situation ∷ test 34 factor ∷ []) in Kept grade k (answered grade k row)
-kept grade (pos k) (Found class) true true true is row y x =
+    let k = first_failing (test ConcreteClass (in_table row) ∷ test SteelStrength steel ∷ test DesignSituation situation ∷ test LongTermFactor factor ∷ []) in Kept grade k (answered grade k row)
+kept grade (pos k) (Some class) true true true is row y x =
     let n = natural 400 600 grade.fyk y in
     let i : ℕ = nat_abs grade.situation in
     record {
-      number = refl;
+      refusal = refl;
       exact = rw is record { L-exact = L-whole k row; crd_exact = crd-whole i };
       promised = record { asked = record { fck_is = rw is; fyk_is = n.is }; bounds = rw is (bounds i k row (natural 80 100 grade.alphacc x) n) };
     }
-kept grade (negsuc k) (Found class) true true true is row y x = absurd (let z : ◌≡◌ {A = ℕ} 0 1 = cc in omega arith)
-kept grade fck (Found class) true true false is row y x = record { number = refl; exact = tt; promised = record { member = tt } }
-kept grade fck (Found class) true false factor is row y x = record { number = refl; exact = tt; promised = record { member = tt } }
-kept grade fck (Found class) false situation factor is row y x = record { number = refl; exact = tt; promised = record { member = tt } }
-kept grade fck Missing steel situation factor is row y x = record { number = refl; exact = tt; promised = record { member = tt } }
+kept grade (negsuc k) (Some class) true true true is row y x = absurd (let z : ◌≡◌ {A = ℕ} 0 1 = cc in omega arith)
+kept grade fck (Some class) true true false is row y x = record { refusal = refl; exact = tt; promised = record { member = tt } }
+kept grade fck (Some class) true false factor is row y x = record { refusal = refl; exact = tt; promised = record { member = tt } }
+kept grade fck (Some class) false situation factor is row y x = record { refusal = refl; exact = tt; promised = record { member = tt } }
+kept grade fck None steel situation factor is row y x = record { refusal = refl; exact = tt; promised = record { member = tt } }
 
 all-kept : (grade : Grade) → Kept grade (first_failing (grade_tests grade)) (materials_of grade)
 all-kept grade =
@@ -120,9 +122,9 @@ pub promise : (grade : Grade) → Promised grade (materials_of grade)
 promise grade = (all-kept grade).promised
 
 -- the clauses of `look_up`, of an answer that is the definition's
-pub clauses : (grade : Grade) {r : Answer} → r ≡ materials_in grade →
-    (r ≡ materials_of grade) × ((refusal_number r ≡ first_failing (grade_tests grade)) × (Exact grade r × Promised grade r))
+pub clauses : (grade : Grade) {r : Result Materials Refusal} → r ≡ materials_in grade →
+    (r ≡ materials_of grade) × ((result_err r ≡ first_failing (grade_tests grade)) × (Exact grade r × Promised grade r))
 clauses grade e =
     let m = e ∙ sym (opened grade) in
     let k = all-kept grade in
-    (m, (rw m k.number, (rw m k.exact, rw m k.promised)))
+    (m, (rw m k.refusal, (rw m k.exact, rw m k.promised)))

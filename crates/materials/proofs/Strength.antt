@@ -41,7 +41,10 @@ eta_high k n = by_cond (λ x. Same (whole n) (whole 1000 *ᶠ x) → n ≤ 1000)
 unfolding ratio
 αcc-proper a = omega arith
 
-module _ (j : PartialFactors) (low : 1 ≤ j.concrete) where
+module _ (j : PartialFactors) where
+  low : 1 ≤ j.concrete
+  low = j.concrete_low
+
   γc-positive : Positive (scaled j).γc
   γc-positive = omega (arith, low)
 

@@ -1,8 +1,6 @@
 -- The concrete classes: document 01, "Materials", and 02's ticket 11 for D, after Table 3.1 of EN 1992-1-1. Assumes nothing.
-use Rattle.std.specs.Prelude.{ℕ, Bool, true, false, cond, List, [], ◌∷◌, eqb, ℤ, pos, negsuc}
+use Rattle.std.specs.Prelude.{ℕ, Bool, true, false, cond, List, [], ◌∷◌, eqb, ℤ, pos, negsuc, Option, None, Some}
 use Rattle.materials.specs.declared.Class.{Class}
-use Rattle.materials.specs.declared.Row.{Row}
-use Rattle.materials.specs.declared.Row.TheVariants.{Found, Missing}
 
 -- an entry of the table: fck, and what is printed of that class
 pub data Entry : Type 0 where
@@ -32,14 +30,14 @@ table =
     ∷ []
 
 -- the class whose strength is fck
-abbrev pub find : ℕ → List Entry → Row
-find fck [] = Missing
-find fck (entry strength class ∷ entries) = cond (eqb fck strength) (Found class) (find fck entries)
+abbrev pub find : ℕ → List Entry → Option Class
+find fck [] = None
+find fck (entry strength class ∷ entries) = cond (eqb fck strength) (Some class) (find fck entries)
 
-abbrev pub row_of : ℤ → Row
+abbrev pub row_of : ℤ → Option Class
 row_of (pos fck) = find fck table
-row_of (negsuc k) = Missing
+row_of (negsuc k) = None
 
-abbrev pub in_table : Row → Bool
-in_table (Found class) = true
-in_table Missing = false
+abbrev pub in_table : Option Class → Bool
+in_table (Some class) = true
+in_table None = false

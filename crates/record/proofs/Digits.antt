@@ -1,61 +1,39 @@
 -- Big-endian bytes and two's complement. Assumes nothing.
 use mathlib.Core.Path.{◌≡◌, refl, sym, ap, ap₂, ◌∙◌}
-use mathlib.Core.List.{List, [], ◌∷◌, ◌++◌, append_assoc, append-nil}
+use mathlib.Core.List.{List, [], ◌∷◌, ◌++◌, append_assoc}
 use Prim.Native.Nat.{ℕ, zero, suc, ◌+◌, ◌-◌, ◌*◌, ◌/◌, ◌%◌, ◌^◌, ◌≤◌, ◌<◌, zero-le}
-use native.Mathlib.Nat.{lt_of_lt_of_le, le_of_suc-le-suc, pow-suc, pow-le-pow_right, add-zero, add-suc, mul_assoc, mod-one}
+use native.Mathlib.Nat.{lt_of_lt_of_le, pow-suc, pow-succ', pow-le-pow_right, mod-one, div-div-eq-div-mul}
 use native.Mathlib.Numerals.{add-one}
 use native.Mathlib.Omega.{arith}
-use borrow.Author.Tests.{lt-ltb, le-ltb}
-use lib.Dec.{lit<}
+use borrow.Author.Tests.{lt-ltb, le-ltb, ltb-false}
+use borrow.Table.Steps.{cases}
+use lib.Arith.{mod-mul}
+use lib.Dec.{ltb, lit<}
 use lib.IntN.{ℤ, pos, negsuc, neg_ℤ, nat_abs, ◌-ℤ◌}
+use lib.ListN.{length, get_or, take, drop, length-append}
+use lib.Seq.{get_or-append-add, get_or_at, get_or-take}
 use lib.Signed.{mag, ◌<ℤ◌, ◌≤ℤ◌}
-use mir.Syntax.{w64}
-use mir.Val.{to_z}
+use mir.Val.{Fits, to_z}
 use mir.Facts.{to_z_pos}
 use Rattle.arith.proofs.Ring.{of_lt, #, ◌⊝◌, ring}
-use lib.Arith.{mod-mul}
-use lib.ListN.{length, get_or, length-append}
-use lib.Seq.{get_or-append-add, get_or_at}
+use Rattle.std.specs.Int.{w8, w32, w64, cast_signed, cast_unsigned, byte_at, bytes_high_first, from_be_bytes, to_be_bytes}
+use Rattle.std.proofs.lemmas.List.{get_or-drop}
 use Rattle.record.specs.Bytes.{number_at, bytes_of, signed, unsigned}
 
--- ---- one byte more
-pub number_more : (xs : List ℕ) (at i : ℕ) → number_at xs at (i + 1) ≡ number_at xs at i * 256 + get_or xs (at + i) 0
+-- ---- the number of bytes
+pub number_below : (xs : List ℕ) (at : ℕ) → ((i : ℕ) → Fits w8 (get_or xs i 0)) → (n : ℕ) → number_at xs at n < 256 ^ n
 unfolding number_at
-number_more xs at i = rw add-one
-
-pub below_more : (i v b : ℕ) → v < 256 ^ i → b < 256 → v * 256 + b < 256 ^ (i + 1)
-below_more i v b h g =
-    let e : 256 ^ (i + 1) ≡ 256 ^ i * 256 = ap (λ (k : ℕ). 256 ^ k) (add-one i) ∙ pow-suc 256 i in
-    omega arith
-
--- fewer than eight bytes leave room for one more in 64 bits
-pub below_seven : (i v : ℕ) → v < 256 ^ i → i < 8 → v < 256 ^ 7
-below_seven i v h g = lt_of_lt_of_le h (pow-le-pow_right {n = 256} (lit< tt) (le_of_suc-le-suc g))
+number_below xs at small zero = lit< tt
+number_below xs at small (suc n) =
+    let h = number_below xs at small n in
+    let b = (small (at + n)).fits in
+    rw (pow-suc 256 n) (omega arith)
 
 -- ---- the bytes of a number
 pub length_bytes : (n v : ℕ) → length (bytes_of n v) ≡ n
 unfolding bytes_of
 length_bytes zero v = refl
 length_bytes (suc n) v = length-append (bytes_of n (v / 256)) (v % 256 ∷ []) ∙ ap (λ (k : ℕ). k + 1) (length_bytes n (v / 256)) ∙ add-one n
-
--- a number of two parts: the bytes of the high one, and then those of the low one
-pub pair : (i j d a : ℕ) → a < 256 ^ j → bytes_of (i + j) (d * 256 ^ j + a) ≡ bytes_of i d ++ bytes_of j a
-unfolding bytes_of
-pair i zero d a h = ap₂ bytes_of (add-zero i) (omega arith) ∙ sym (append-nil (bytes_of i d))
-pair i (suc j) d a h =
-    let e : d * 256 ^ suc j + a ≡ d * 256 ^ j * 256 + a = ap (λ (x : ℕ). d * x + a) (pow-suc 256 j) ∙ ap (λ (x : ℕ). x + a) (sym (mul_assoc d (256 ^ j) 256)) in
-    let s = shift (d * 256 ^ j) a in
-    let low : a / 256 < 256 ^ j = below (256 ^ j) (rw (pow-suc 256 j) at h) in
-    ap₂ bytes_of (add-suc i j) e
-    ∙ ap₂ (λ (x y : ℕ). bytes_of (i + j) x ++ (y ∷ [])) s.0 s.1
-    ∙ ap (λ (l : List ℕ). l ++ (a % 256 ∷ [])) (pair i j d (a / 256) low)
-    ∙ append_assoc (bytes_of i d) (bytes_of j (a / 256)) (a % 256 ∷ [])
-  where
-    shift : (x a : ℕ) → ((x * 256 + a) / 256 ≡ x + a / 256) × ((x * 256 + a) % 256 ≡ a % 256)
-    shift x a = (omega arith, omega arith)
-
-    below : (x : ℕ) → a < x * 256 → a / 256 < x
-    below x h = omega arith
 
 -- what was written is read
 pub number_at-bytes_of : (n v : ℕ) (p q : List ℕ) → number_at (p ++ (bytes_of n v ++ q)) (length p) n ≡ v % 256 ^ n
@@ -105,3 +83,50 @@ signed-unsigned (pos n) h = rw (lt-ltb n (2 ^ 63) h)
 signed-unsigned (negsuc n) h =
     let e : 2 ^ 64 - 1 - (2 ^ 64 - suc n) ≡ n = omega arith in
     signed_high (2 ^ 64 - suc n) (omega arith) (omega arith) ∙ ap negsuc e
+
+-- ---- the same in std's words
+pub cast-signed : (v : ℕ) → v < 2 ^ 64 → cast_signed w64 v ≡ signed v
+cast-signed v h = cases (ltb v (2 ^ 63))
+    (λ t. rw t)
+    (λ f.
+    let high : cast_signed w64 v ≡ negsuc (2 ^ 64 - suc v) = rw f in
+    let e : 2 ^ 64 - suc v ≡ 2 ^ 64 - 1 - v = omega arith in
+    high ∙ ap negsuc e ∙ sym (signed_high v (ltb-false v (2 ^ 63) f) h))
+
+pub cast-unsigned : (x : ℤ) → cast_unsigned w64 x ≡ unsigned x
+cast-unsigned (pos n) = refl
+cast-unsigned (negsuc n) = refl
+
+module _ (xs : List ℕ) (at : ℕ) where
+  byte : (n i : ℕ) → i < n → get_or (take n (drop at xs)) i 0 ≡ get_or xs (at + i) 0
+  byte n i h = get_or-take n (drop at xs) i 0 h ∙ get_or-drop at xs i 0
+
+  pub from_four : from_be_bytes w32 (take 4 (drop at xs)) ≡ number_at xs at 4
+  unfolding number_at
+  from_four = omega (arith, byte 4 0 (lit< tt), byte 4 1 (lit< tt), byte 4 2 (lit< tt), byte 4 3 (lit< tt))
+
+  pub from_eight : from_be_bytes w64 (take 8 (drop at xs)) ≡ number_at xs at 8
+  unfolding number_at
+  from_eight =
+      omega (arith, byte 8 0 (lit< tt), byte 8 1 (lit< tt), byte 8 2 (lit< tt), byte 8 3 (lit< tt), byte 8 4 (lit< tt), byte 8 5 (lit< tt), byte 8 6 (lit< tt), byte 8 7 (lit< tt))
+
+-- the lowest byte comes last, and the others are those of the number that is left
+byte_more : (i v : ℕ) → byte_at (suc i) v ≡ byte_at i (v / 256)
+byte_more zero v = refl
+byte_more (suc i) v =
+    ap (λ (k : ℕ). v / k % 256) (pow-succ' 256 (suc i)) ∙ ap (λ (x : ℕ). x % 256) (sym (div-div-eq-div-mul v 256 (256 ^ suc i)))
+
+bytes_more : (n v : ℕ) → bytes_high_first (suc n) v ≡ bytes_high_first n (v / 256) ++ (v % 256 ∷ [])
+bytes_more zero v = refl
+bytes_more (suc n) v = ap₂ (λ (b : ℕ) (bs : List ℕ). b ∷ bs) (byte_more n v) (bytes_more n v)
+
+bytes_same : (n v : ℕ) → bytes_high_first n v ≡ bytes_of n v
+unfolding bytes_of
+bytes_same zero v = refl
+bytes_same (suc n) v = bytes_more n v ∙ ap (λ (bs : List ℕ). bs ++ (v % 256 ∷ [])) (bytes_same n (v / 256))
+
+pub to_four : (v : ℕ) → to_be_bytes w32 v ≡ bytes_of 4 v
+to_four v = bytes_same 4 v
+
+pub to_eight : (v : ℕ) → to_be_bytes w64 v ≡ bytes_of 8 v
+to_eight v = bytes_same 8 v

@@ -9,7 +9,8 @@ use borrow.Author.Tests.{le-leb}
 use lib.IntN.{pos}
 use lib.ListN.{length, take, length-append, get_or-append}
 use lib.Seq.{length-take-le, get_or-take}
-use Rattle.arith.specs.Chain.{first_failing}
+use Rattle.refusals.specs.Number.{number_or_0}
+use Rattle.refusals.specs.Chain.{first_failing}
 use Rattle.section.specs.Section.{no_links, links_with}
 use Rattle.section.specs.declared.Layer.{Layer}
 use Rattle.record.specs.declared.Reading.{Reading}
@@ -111,5 +112,5 @@ rest_ignored xs e ys =
     ap (λ (n : ℕ). read_of (take n xs ++ ys)) n.is ∙ whole_ignored xs ys n.whole
 
 -- the other clauses of `read` follow from its first
-pub read_clauses : (xs : List ℕ) {r : Reading} → r ≡ read_of xs → (r ≡ read_of xs) × ((r.refusal ≡ first_failing (read_tests xs)) × RestIgnored xs r)
+pub read_clauses : (xs : List ℕ) {r : Reading} → r ≡ read_of xs → (r ≡ read_of xs) × ((r.refusal ≡ number_or_0 (first_failing (read_tests xs))) × RestIgnored xs r)
 read_clauses xs {r} e = (e, (ap (λ (r : Reading). r.refusal) e ∙ read_refusal xs, subst (RestIgnored xs) (sym e) (rest_ignored xs)))

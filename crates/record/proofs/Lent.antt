@@ -1,14 +1,12 @@
 -- A list of bytes into which others are written. Assumes nothing.
 use mathlib.Core.Path.{◌≡◌, sym, ap, ap₂, ◌∙◌}
-use mathlib.Core.List.{List, [], ◌∷◌, ◌++◌, append_assoc}
-use Prim.Native.Nat.{ℕ, suc, ◌+◌, ◌/◌, ◌%◌, ◌≤◌, ◌<◌}
-use native.Mathlib.Nat.{add_assoc, add-zero, le-add_right, lt-suc_self}
-use native.Mathlib.Numerals.{add-one}
+use mathlib.Core.List.{List, [], ◌++◌, append_assoc}
+use Prim.Native.Nat.{ℕ, ◌+◌, ◌≤◌}
+use native.Mathlib.Nat.{add_assoc, add-zero}
 use native.Mathlib.Omega.{arith}
-use lib.ListN.{length, take, drop, set, length-append, length-drop, take-append-drop}
-use lib.Seq.{length-take-le, take_at, drop-append-add, drop-drop, take-set-le, drop-cons, drop-set-lt, get_or-set_same, lt-length-set}
-use Rattle.record.specs.Bytes.{bytes_of, placed}
-use Rattle.record.proofs.Digits.{length_bytes}
+use lib.ListN.{length, take, drop, length-append, length-drop, take-append-drop}
+use lib.Seq.{length-take-le, take_at, drop-append-add, drop-drop}
+use Rattle.record.specs.Bytes.{placed}
 
 pub placed_none : (xs : List ℕ) (at : ℕ) → xs ≡ placed xs at []
 unfolding placed
@@ -32,21 +30,3 @@ placed_more xs at ys zs h =
     ∙ ap (λ (k : ℕ). drop k xs) (add_assoc at (length ys) (length zs) ∙ ap (λ (k : ℕ). at + k) (sym (length-append ys zs))))
     ∙ append_assoc (take at xs) ys (zs ++ drop (at + length (ys ++ zs)) xs)
     ∙ ap (λ (l : List ℕ). take at xs ++ l) (sym (append_assoc ys zs (drop (at + length (ys ++ zs)) xs)))
-
--- the lowest byte is stored, and then the rest
-pub placed_step : (xs : List ℕ) (at i v : ℕ) → at + i < length xs
-    → placed (set xs (at + i) (v % 256)) at (bytes_of i (v / 256)) ≡ placed xs at (bytes_of (suc i) v)
-unfolding placed bytes_of
-placed_step xs at i v h =
-    let B = bytes_of i (v / 256) in
-    let n = length_bytes i (v / 256) in
-    let more : at + length B + 1 ≡ at + length (B ++ (v % 256 ∷ [])) = simp length-append (omega arith) in
-    ap (λ (k : ℕ). take at (set xs (at + i) (v % 256)) ++ (B ++ drop (at + k) (set xs (at + i) (v % 256)))) n
-    ∙ ap₂ (λ (p q : List ℕ). p ++ (B ++ q)) (take-set-le at xs (at + i) (v % 256) (le-add_right at i)) (drop-set (at + i) (v % 256) h)
-    ∙ ap (λ (k : ℕ). take at xs ++ (B ++ (v % 256 ∷ drop k xs))) (sym (add-one (at + i)) ∙ ap (λ (k : ℕ). at + k + 1) (sym n) ∙ more)
-    ∙ ap (λ (q : List ℕ). take at xs ++ q) (sym (append_assoc B (v % 256 ∷ []) (drop (at + length (B ++ (v % 256 ∷ []))) xs)))
-  where
-    drop-set : (j b : ℕ) → j < length xs → drop j (set xs j b) ≡ b ∷ drop (suc j) xs
-    drop-set j b h =
-        drop-cons (set xs j b) j 0 (lt-length-set xs j b h)
-        ∙ ap₂ (λ (x : ℕ) (ys : List ℕ). x ∷ ys) (get_or-set_same xs j b 0 h) (drop-set-lt (suc j) xs j b (lt-suc_self j))

@@ -4,6 +4,7 @@ pub mod Lent
 pub mod Table
 pub mod Places
 pub mod Readings
+pub mod Named
 pub mod Ignored
 pub mod Writing
 pub mod Passed

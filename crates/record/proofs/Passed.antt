@@ -7,6 +7,7 @@ use native.Mathlib.Omega.{arith}
 use lib.Dec.{lit<}
 use lib.ListN.{length, get_or}
 use lib.Signed.{mag}
+use Rattle.std.specs.Prelude.{None}
 use Rattle.arith.proofs.Test.{both_true}
 use Rattle.section.specs.Section.{counted, layers_of, links_of, all, depth_ok, area_ok, no_layer}
 use Rattle.section.specs.declared.Layer.{Layer}
@@ -45,7 +46,7 @@ four_bytes h low (y ∷ ls) d a zero =
 four_bytes h low (y ∷ ls) d a (suc j) =
     four_bytes h low ls (both_true (depth_ok h y) (all (depth_ok h) ls) d).1 (both_true (area_ok y) (all area_ok ls) a).1 j
 
-pub carried : (s : Section) (l : Load) → Machine s l → tests_of s l ≡ 0 → Carried s l
+pub carried : (s : Section) (l : Load) → Machine s l → tests_of s l ≡ None → Carried s l
 carried s l m e =
     let p = all_passed s (links_of s) l e in
     let w = p.section.usable in

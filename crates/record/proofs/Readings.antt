@@ -1,37 +1,43 @@
 -- A reading by the answers of its tests, the refusals that it has, and its length. Assumes nothing.
 use mathlib.Core.Path.{◌≡◌, refl, sym, ap, ◌∙◌}
-use mathlib.Core.Bool.{Bool, true, false, cond}
-use mathlib.Core.List.{List, ◌∷◌, ◌++◌}
-use Prim.Native.Nat.{ℕ, zero, suc, ◌≤◌, ◌<◌}
+use mathlib.Core.Bool.{Bool, true, false, cond, not}
+use mathlib.Core.List.{List, [], ◌∷◌, ◌++◌}
+use Prim.Native.Nat.{ℕ, ◌≤◌, ◌<◌}
 use native.Mathlib.Omega.{arith}
 use borrow.Author.Tests.{leb-true}
-use lib.Dec.{leb, ltb, ltb→lt, lit<}
+use lib.Dec.{leb, lit<}
 use lib.ListN.{length}
-use Rattle.arith.specs.Chain.{test, or_else, first_failing, OneOf}
-use Rattle.arith.proofs.Chain.{first_of, passes, among, first-one_of, test-one_of}
+use Rattle.std.specs.Prelude.{Option, None, Some}
+use Rattle.std.specs.Option.{option_or}
 use Rattle.arith.proofs.Test.{is_true, both_true, clash}
-use Rattle.section.specs.Section.{Counted, counted, links_of}
+use Rattle.refusals.specs.declared.Refusal.{Refusal}
+use Rattle.refusals.specs.declared.Refusal.TheVariants.{MapCut, UnknownField, RecordCut, FieldMissing}
+use Rattle.refusals.specs.Number.{number_of, number_or_0}
+use Rattle.refusals.specs.Chain.{test, first_failing, OneOf}
+use Rattle.refusals.proofs.Number.{number_small}
+use Rattle.refusals.proofs.Chain.{first_of, passes, among, Among, no_test, first_among, test_among}
+use Rattle.section.specs.Section.{counted, links_of}
 use Rattle.section.specs.Refusals.{section_tests, section_refusals, load_link_tests, load_link_refusals}
 use Rattle.section.specs.declared.Section.{Section}
-use Rattle.section.specs.declared.Links.{Links}
 use Rattle.section.specs.declared.Load.{Load}
-use Rattle.section.proofs.Usable.{section_one_of, load_link_one_of}
+use Rattle.section.proofs.Usable.{section_among, load_link_among}
 use Rattle.record.specs.declared.Reading.{Reading}
 use Rattle.record.specs.Map.{stands, record_length, only_fields, complete_to, complete}
 use Rattle.record.specs.Contents.{section_of, load_of}
-use Rattle.record.specs.Refusals.{map_in, read_tests, read_refusals, names_length}
-use Rattle.record.specs.Read.{refused_reading, reading_by, read_of}
+use Rattle.record.specs.Refusals.{map_in, map_tests, content_tests, held_tests, read_tests, read_refusals, names_length}
+use Rattle.record.specs.Read.{accepted_reading, refused_reading, reading_by, read_of}
 use Rattle.record.proofs.Bits.{room, offset_yes}
 
 -- ---- by the answers of the tests: 20, 21, 22, 23, and those of the section, the load and the links
-abbrev pub by_answers : Bool → Bool → Bool → Bool → ℕ → Section → Load → ℕ → Reading
-by_answers a b c d n s l k = reading_by n s l (or_else (test 20 a) (or_else (test 21 b) (or_else (test 22 c) (or_else (test 23 d) k))))
+abbrev pub by_answers : Bool → Bool → Bool → Bool → ℕ → Section → Load → Option Refusal → Reading
+by_answers a b c d n s l k =
+    reading_by n s l (option_or (test MapCut a) (option_or (test UnknownField b) (option_or (test RecordCut c) (option_or (test FieldMissing d) k))))
 
-abbrev pub tests_of : Section → Load → ℕ
-tests_of s l = first_failing (section_tests (counted s) ++ load_link_tests (links_of s) l)
+abbrev pub tests_of : Section → Load → Option Refusal
+tests_of s l = first_failing (content_tests s l)
 
 -- `refl` where an answer does not matter
-pub chosen : (xs : List ℕ) {m : ℕ} {s : Section} {l : Load} (a b c d : Bool) (k : ℕ) → m ≡ map_in xs → s ≡ section_of xs m → l ≡ load_of xs m
+pub chosen : (xs : List ℕ) {m : ℕ} {s : Section} {l : Load} (a b c d : Bool) (k : Option Refusal) → m ≡ map_in xs → s ≡ section_of xs m → l ≡ load_of xs m
     → a ≡ leb 4 (length xs) → b ≡ only_fields m → c ≡ leb (record_length m) (length xs) → d ≡ complete m → k ≡ tests_of s l
     → by_answers a b c d (record_length m) s l k ≡ read_of xs
 unfolding read_of read_tests
@@ -44,62 +50,96 @@ chosen xs {m} {s} {l} a b c d k em es el ea eb ec ed ek =
     of m s l = by_answers (leb 4 (length xs)) (only_fields m) (leb (record_length m) (length xs)) (complete m) (record_length m) s l (tests_of s l)
 
 -- ---- the refusals
-tests-one_of : (c : Counted) (links : Links) (l : Load)
-    → OneOf (0 ∷ (section_refusals ++ load_link_refusals)) (first_failing (section_tests c ++ load_link_tests links l))
-tests-one_of c links l =
-    rw (first_of (section_tests c) (load_link_tests links l))
-    (first-one_of (first_failing (section_tests c)) (among (0 ∷ (section_refusals ++ load_link_refusals)) (0 ∷ section_refusals) tt (section_one_of c))
-    (among (0 ∷ (section_refusals ++ load_link_refusals)) (0 ∷ load_link_refusals) tt (load_link_one_of links l)))
+pub tests_among : {rs : List Refusal} (s : Section) (l : Load) → ((r : Refusal) → OneOf section_refusals r → OneOf rs r)
+    → ((r : Refusal) → OneOf load_link_refusals r → OneOf rs r) → Among rs (tests_of s l)
+tests_among {rs} s l f g =
+    rw (first_of (section_tests (counted s)) (load_link_tests (links_of s) l))
+    (first_among (first_failing (section_tests (counted s))) (widen _ f (section_among (counted s))) (widen _ g (load_link_among (links_of s) l)))
+  where
+    widen : {ks : List Refusal} (o : Option Refusal) → ((r : Refusal) → OneOf ks r → OneOf rs r) → Among ks o → Among rs o
+    widen None f h = record { some = tt }
+    widen (Some r) f h = record { some = f r h.some }
 
--- a refusal of the section, the load or the links names the length
-tests_name : (s : Section) (l : Load) (k : ℕ) → k ≡ tests_of s l → names_length k ≡ true
-tests_name s l k e =
-    let one : OneOf (0 ∷ (section_refusals ++ load_link_refusals)) k = rw e (tests-one_of (counted s) (links_of s) l) in
-    is_true (names_length k) (passes names_length (0 ∷ (section_refusals ++ load_link_refusals)) tt one)
+-- those of the map name no length, and those of the fields and of what they hold do
+map_among : (xs : List ℕ) → Among (MapCut ∷ UnknownField ∷ RecordCut ∷ []) (first_failing (map_tests xs))
+map_among xs =
+    let m = map_in xs in
+    test_among MapCut (leb 4 (length xs)) (record { member = tt }) (
+    test_among UnknownField (only_fields m) (record { member = tt }) (
+    test_among RecordCut (leb (record_length m) (length xs)) (record { member = tt }) no_test))
 
-pub refused_by : (n : ℕ) (s : Section) (l : Load) (k : ℕ) → (k ≡ 0 → ⊥) → k ≡ tests_of s l → refused_reading k n ≡ reading_by n s l k
-refused_by n s l zero h e = absurd (h refl)
-refused_by n s l (suc k) h e = ap (λ (t : Bool). refused_reading (suc k) (cond t n 0)) (sym (tests_name s l (suc k) e))
+held_refusals : List Refusal
+held_refusals = FieldMissing ∷ (section_refusals ++ load_link_refusals)
 
-refusal_is : (n : ℕ) (s : Section) (l : Load) (k : ℕ) → (reading_by n s l k).refusal ≡ k
+held_among : (m : ℕ) (s : Section) (l : Load) → Among held_refusals (first_failing (held_tests m s l))
+unfolding held_refusals
+held_among m s l =
+    test_among FieldMissing (complete m) (record { member = tt }) (
+    tests_among s l (λ r. among held_refusals section_refusals tt) (λ r. among held_refusals load_link_refusals tt))
+
+-- ---- what is answered, by the first test that fails
+module _ (xs : List ℕ) where
+  abbrev m : ℕ
+  m = map_in xs
+
+  -- those of the map, and then those of its fields and of what they hold
+  abbrev held : Option Refusal
+  held = first_failing (held_tests m (section_of xs m) (load_of xs m))
+
+  first : first_failing (read_tests xs) ≡ option_or (first_failing (map_tests xs)) held
+  unfolding read_tests
+  first = first_of (map_tests xs) (held_tests m (section_of xs m) (load_of xs m))
+
+  by_first : (o : Option Refusal) → first_failing (read_tests xs) ≡ o → reading_by (record_length m) (section_of xs m) (load_of xs m) o ≡ read_of xs
+  unfolding read_of
+  by_first o e = rw e
+
+  pub map_refused : {r : Refusal} → first_failing (map_tests xs) ≡ Some r → refused_reading r 0 ≡ read_of xs
+  map_refused {r} e =
+      let one = map_among xs in
+      let unnamed : names_length (number_of r) ≡ false = ap not (is_true _ (rw e at one).some.member) in
+      ap (λ (t : Bool). refused_reading r (cond t (record_length m) 0)) (sym unnamed) ∙ by_first (Some r) (first ∙ rw e)
+
+  pub held_refused : {r : Refusal} → first_failing (map_tests xs) ≡ None → held ≡ Some r → refused_reading r (record_length m) ≡ read_of xs
+  unfolding held_refusals
+  held_refused {r} e f =
+      let one = held_among m (section_of xs m) (load_of xs m) in
+      let named : names_length (number_of r) ≡ true = is_true _ (passes names_length held_refusals tt (rw f at one).some) in
+      ap (λ (t : Bool). refused_reading r (cond t (record_length m) 0)) (sym named) ∙ by_first (Some r) (first ∙ rw (e, f))
+
+  pub none_refused : first_failing (map_tests xs) ≡ None → held ≡ None → accepted_reading (record_length m) (section_of xs m) (load_of xs m) ≡ read_of xs
+  none_refused e f = by_first None (first ∙ rw (e, f))
+
+pub refusal_is : (n : ℕ) (s : Section) (l : Load) (k : Option Refusal) → (reading_by n s l k).refusal ≡ number_or_0 k
 unfolding refused_reading
-refusal_is n s l zero = refl
-refusal_is n s l (suc k) = refl
+refusal_is n s l None = refl
+refusal_is n s l (Some r) = refl
 
-pub read_refusal : (xs : List ℕ) → (read_of xs).refusal ≡ first_failing (read_tests xs)
+pub read_refusal : (xs : List ℕ) → (read_of xs).refusal ≡ number_or_0 (first_failing (read_tests xs))
 unfolding read_of
 read_refusal xs = refusal_is (record_length (map_in xs)) (section_of xs (map_in xs)) (load_of xs (map_in xs)) (first_failing (read_tests xs))
 
--- it is one of the numbers of the sequence, and so has at most two digits
-pub read-one_of : (xs : List ℕ) → OneOf (0 ∷ read_refusals) (read_of xs).refusal
-unfolding read_tests
-read-one_of xs =
-    let m = map_in xs in
-    rw (read_refusal xs)
-    (test-one_of 20 (leb 4 (length xs)) (record { member = tt })
-    (test-one_of 21 (only_fields m) (record { member = tt })
-    (test-one_of 22 (leb (record_length m) (length xs)) (record { member = tt })
-    (test-one_of 23 (complete m) (record { member = tt })
-    (among (0 ∷ read_refusals) (0 ∷ (section_refusals ++ load_link_refusals)) tt
-    (tests-one_of (counted (section_of xs m)) (links_of (section_of xs m)) (load_of xs m)))))))
-
 pub refusal_small : (xs : List ℕ) → (read_of xs).refusal < 256
-refusal_small xs = ltb→lt (read_of xs).refusal 256 (passes (λ k. ltb k 256) (0 ∷ read_refusals) tt (read-one_of xs))
+refusal_small xs = rw (read_refusal xs) (small (first_failing (read_tests xs)))
+  where
+    small : (o : Option Refusal) → number_or_0 o < 256
+    small None = lit< tt
+    small (Some r) = number_small r
 
 -- ---- the length: where it is named, that of the record, which is there whole
 pub record Named (xs : List ℕ) (r : Reading) : Type 0 where
   pub is : r.length ≡ record_length (map_in xs)
   pub whole : record_length (map_in xs) ≤ length xs
 
-named : (a b c d : Bool) (n : ℕ) (s : Section) (l : Load) (k : ℕ) → names_length (by_answers a b c d n s l k).refusal ≡ true
+named : (a b c d : Bool) (n : ℕ) (s : Section) (l : Load) (k : Option Refusal) → names_length (by_answers a b c d n s l k).refusal ≡ true
     → ((by_answers a b c d n s l k).length ≡ n) × (c ≡ true)
 unfolding refused_reading
 named false b c d n s l k e = absurd (clash e refl)
 named true false c d n s l k e = absurd (clash e refl)
 named true true false d n s l k e = absurd (clash e refl)
 named true true true false n s l k e = (refl, refl)
-named true true true true n s l zero e = (refl, refl)
-named true true true true n s l (suc k) e = (rw e, refl)
+named true true true true n s l None e = (refl, refl)
+named true true true true n s l (Some r) e = (rw e, refl)
 
 pub read_named : (xs : List ℕ) → names_length (read_of xs).refusal ≡ true → Named xs (read_of xs)
 unfolding read_of read_tests
@@ -111,10 +151,10 @@ read_named xs e =
     record { is = n.0; whole = leb-true (record_length m) (length xs) n.1 }
 
 -- else it is 0
-unnamed : (n : ℕ) (s : Section) (l : Load) (k : ℕ) → names_length k ≡ false → (reading_by n s l k).length ≡ 0
+unnamed : (n : ℕ) (s : Section) (l : Load) (k : Option Refusal) → names_length (number_or_0 k) ≡ false → (reading_by n s l k).length ≡ 0
 unfolding refused_reading
-unnamed n s l zero e = absurd (clash refl e)
-unnamed n s l (suc k) e = rw e
+unnamed n s l None e = absurd (clash refl e)
+unnamed n s l (Some r) e = rw e
 
 read_unnamed : (xs : List ℕ) → names_length (read_of xs).refusal ≡ false → (read_of xs).length ≡ 0
 unfolding read_of
@@ -139,7 +179,7 @@ complete_long m e =
     let d = both_true (stands m 0) true c.1 in
     omega (arith, offset_yes m 0 d.0, offset_yes m 1 c.0, offset_yes m 2 b.0, room m 3 (record_length m) (lit< tt) a.0 (omega arith))
 
-read-complete : (a b c d : Bool) (n : ℕ) (s : Section) (l : Load) (k : ℕ) → (by_answers a b c d n s l k).refusal ≡ 0 → d ≡ true
+read-complete : (a b c d : Bool) (n : ℕ) (s : Section) (l : Load) (k : Option Refusal) → (by_answers a b c d n s l k).refusal ≡ 0 → d ≡ true
 unfolding refused_reading
 read-complete false b c d n s l k e = absurd (omega arith)
 read-complete true false c d n s l k e = absurd (omega arith)

@@ -11,9 +11,13 @@ use lib.Dec.{leb, ltb, lit≤}
 use lib.IntN.{ℤ, pos, negsuc}
 use lib.ListN.{length, get_or, take, drop, replicate, length-append}
 use lib.Seq.{take-suc, take_all, take_at, length-take-le}
-use Rattle.arith.specs.Chain.{first_failing}
+use Rattle.std.specs.Prelude.{Option, None, Some}
+use Rattle.refusals.specs.declared.Refusal.{Refusal}
+use Rattle.refusals.specs.Number.{number_or_0}
+use Rattle.refusals.specs.Number as numbers
+use Rattle.refusals.specs.Chain.{first_failing}
+use Rattle.refusals.proofs.Chain.{both_none}
 use Rattle.arith.specs.Integer.{in_range}
-use Rattle.arith.proofs.Chain.{both_zero}
 use Rattle.arith.proofs.Test.{clash, both_true, and_true}
 use Rattle.section.specs.Section.{Counted, counted, layers_of, no_layer, absent, no_links, links_with, links_of}
 use Rattle.section.specs.Refusals.{section_tests, load_link_tests}
@@ -278,7 +282,7 @@ module _ (s : Section) (l : Load) (ok : Carried s l) where
   load_back q = sym (λ i. load_with (λ k. number_back s l q ok k i))
 
 -- a record, and any bytes after it
-pub record_back : (s : Section) (l : Load) (q : List ℕ) → Machine s l → tests_of s l ≡ 0
+pub record_back : (s : Section) (l : Load) (q : List ℕ) → Machine s l → tests_of s l ≡ None
     → read_back s l (record_length (map_of (counted s) (links_of s) l)) ≡ read_of (record_of (counted s) (links_of s) l ++ q)
 record_back s l q machine passed =
     let ok = carried s l machine passed in
@@ -287,35 +291,32 @@ record_back s l q machine passed =
     let long = long_enough s l q in
     let r = sym passed
     ∙ (λ i. first_failing (section_tests (sym (same_counted s l ok) i) ++ load_link_tests (sym (counted_twice s.links) i) l)) in
-    chosen xs true true true true 0 (map_back s l q) (section_back s l ok q) (load_back s l ok q)
+    chosen xs true true true true None (map_back s l q) (section_back s l ok q) (load_back s l ok q)
     (sym (le-leb 4 (length xs) (omega arith))) (sym (only_fields_back s l q)) (sym (le-leb (record_length m) (length xs) long)) (sym (complete_back s l q)) r
 
+-- a refusal's number is not 0
+some_number : (r : Refusal) → numbers.number_of r ≡ 0 → ⊥
+some_number r e = grind arith
+
 -- the buffer of a write that was accepted, read afterwards
-round_trip : (s : Section) (l : Load) (buf : List ℕ) → Machine s l → (k : ℕ) → first_failing (write_tests (counted s) (links_of s) l buf) ≡ k
+round_trip : (s : Section) (l : Load) (buf : List ℕ) → Machine s l → (k : Option Refusal) → first_failing (write_tests (counted s) (links_of s) l buf) ≡ k
     → ReadsBack s l (written_by (record_length (map_of (counted s) (links_of s) l)) k) (changed_by (record_of (counted s) (links_of s) l) buf k)
-round_trip s l buf machine (suc k) e z = absurd (omega arith)
-round_trip s l buf machine zero e z =
+round_trip s l buf machine (Some r) e z = absurd (some_number r z)
+round_trip s l buf machine None e z =
     let c = counted s in
     let links = links_of s in
-    sym (record_back s l (drop (length (record_of c links l)) buf) machine (both_zero (tests_of s l) _ (sym (write-first c links l buf) ∙ e)).0)
+    sym (record_back s l (drop (length (record_of c links l)) buf) machine (both_none (tests_of s l) _ (sym (write-first c links l buf) ∙ e)).0)
 
-written_refusal : (n k : ℕ) → (written_by n k).refusal ≡ k
-written_refusal n zero = refl
-written_refusal n (suc k) = refl
+written_refusal : (n : ℕ) (k : Option Refusal) → (written_by n k).refusal ≡ number_or_0 k
+written_refusal n None = refl
+written_refusal n (Some r) = refl
 
 -- the other clauses of `write` follow from its first two
 pub write_clauses : (s : Section) (l : Load) (buf : List ℕ) {r : Written} {after : List ℕ} → Machine s l
     → r ≡ written_of (counted s) (links_of s) l buf → after ≡ buffer_of (counted s) (links_of s) l buf
-    → (r ≡ written_of (counted s) (links_of s) l buf)
-    × ((after ≡ buffer_of (counted s) (links_of s) l buf) × ((r.refusal ≡ first_failing (write_tests (counted s) (links_of s) l buf)) × ReadsBack s l r after))
+    → (r.refusal ≡ number_or_0 (first_failing (write_tests (counted s) (links_of s) l buf))) × ReadsBack s l r after
 write_clauses s l buf machine e g =
     let k = first_failing (write_tests (counted s) (links_of s) l buf) in (
-      e,
-      (
-        g,
-        (
-          ap (λ (r : Written). r.refusal) e ∙ written_refusal (record_length (map_of (counted s) (links_of s) l)) k,
-          rw (e, g) (round_trip s l buf machine k refl),
-        ),
-      ),
+      ap (λ (r : Written). r.refusal) e ∙ written_refusal (record_length (map_of (counted s) (links_of s) l)) k,
+      rw (e, g) (round_trip s l buf machine k refl),
     )

@@ -7,3 +7,4 @@ pub mod Refusals
 pub mod Read
 pub mod Write
 pub mod RoundTrip
+pub mod Code

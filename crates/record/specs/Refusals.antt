@@ -1,11 +1,14 @@
 -- When Read a record and Write a record are turned down: document 01, and 02's tickets 3, 8 and 10. The sequence of each is a list of
 -- tests, in the documents' order; the first that fails gives the refusal. The section tests, the load tests and those of the links stand
 -- on the page `Refusals` of the section. Assumes nothing.
-use Rattle.std.specs.Prelude.{ℕ, Bool, not, List, [], ◌∷◌, ◌++◌, leb, length}
-use Rattle.arith.specs.Chain.{test, is_one_of}
+use Rattle.std.specs.Prelude.{ℕ, Bool, not, List, [], ◌∷◌, ◌++◌, leb, length, Option}
+use Rattle.refusals.specs.Chain.{test, is_number_of}
+use Rattle.refusals.specs.declared.Refusal.{Refusal}
+use Rattle.refusals.specs.declared.Refusal.TheVariants.{MapCut, UnknownField, RecordCut, FieldMissing, BufferTooShort}
 use Rattle.section.specs.Section.{Counted, counted, links_of}
 use Rattle.section.specs.Refusals.{section_tests, section_refusals, load_link_tests, load_link_refusals}
 use Rattle.section.specs.declared.Links.{Links}
+use Rattle.section.specs.declared.Section.{Section}
 use Rattle.section.specs.declared.Load.{Load}
 use Rattle.record.specs.Bytes.{number_at}
 use Rattle.record.specs.Map.{record_length, only_fields, complete}
@@ -17,33 +20,45 @@ use Rattle.record.specs.Layout.{map_of}
 abbrev pub map_in : List ℕ → ℕ
 map_in xs = number_at xs 0 4
 
-unfoldable pub read_tests : List ℕ → List ℕ
-read_tests xs =
+-- of its map
+abbrev pub map_tests : List ℕ → List (Option Refusal)
+map_tests xs =
     -- 20 fewer than 4 bytes
-    test 20 (leb 4 (length xs))
+    test MapCut (leb 4 (length xs))
     -- 21 a bit stands that has no field: one of 26 to 31
-    ∷ test 21 (only_fields (map_in xs))
+    ∷ test UnknownField (only_fields (map_in xs))
     -- 22 fewer bytes than the map calls for
-    ∷ test 22 (leb (record_length (map_in xs)) (length xs))
+    ∷ test RecordCut (leb (record_length (map_in xs)) (length xs))
+    ∷ []
+
+-- of a section, its links and a load
+abbrev pub content_tests : Section → Load → List (Option Refusal)
+content_tests s l = section_tests (counted s) ++ load_link_tests (links_of s) l
+
+-- of its fields, and of what they hold
+abbrev pub held_tests : ℕ → Section → Load → List (Option Refusal)
+held_tests m s l =
     -- 23 one of bits 0 to 3 absent
-    ∷ test 23 (complete (map_in xs))
-    ∷ (section_tests (counted (section_of xs (map_in xs)))
-    ++ load_link_tests (links_of (section_of xs (map_in xs))) (load_of xs (map_in xs)))
+    test FieldMissing (complete m)
+    ∷ content_tests s l
 
--- the numbers that these tests have
-abbrev pub read_refusals : List ℕ
-read_refusals = 20 ∷ 21 ∷ 22 ∷ 23 ∷ (section_refusals ++ load_link_refusals)
+unfoldable pub read_tests : List ℕ → List (Option Refusal)
+read_tests xs = map_tests xs ++ held_tests (map_in xs) (section_of xs (map_in xs)) (load_of xs (map_in xs))
 
--- "the length is answered, for 20 to 22 as 0"
+-- the refusals that these tests have
+abbrev pub read_refusals : List Refusal
+read_refusals = MapCut ∷ UnknownField ∷ RecordCut ∷ FieldMissing ∷ (section_refusals ++ load_link_refusals)
+
+-- "the length is answered, for 20 to 22 as 0": of a refusal's number, 0 for none
 abbrev pub names_length : ℕ → Bool
-names_length k = not (is_one_of (20 ∷ 21 ∷ 22 ∷ []) k)
+names_length k = not (is_number_of (MapCut ∷ UnknownField ∷ RecordCut ∷ []) k)
 
 -- ---- Write a record, into the lent buffer
 
-unfoldable pub write_tests : Counted → Links → Load → List ℕ → List ℕ
+unfoldable pub write_tests : Counted → Links → Load → List ℕ → List (Option Refusal)
 write_tests c links l buf =
     section_tests c
     ++ (load_link_tests links l
     -- 25 the lent buffer is shorter than the record
-    ++ (test 25 (leb (record_length (map_of c links l)) (length buf))
+    ++ (test BufferTooShort (leb (record_length (map_of c links l)) (length buf))
     ∷ []))

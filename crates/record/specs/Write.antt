@@ -1,6 +1,8 @@
 -- Write a record: document 01, "Write a record". Assumes nothing.
-use Rattle.std.specs.Prelude.{ℕ, zero, suc, List, ◌++◌, length, drop}
-use Rattle.arith.specs.Chain.{first_failing}
+use Rattle.std.specs.Prelude.{ℕ, List, ◌++◌, length, drop, Option, None, Some, Result, Ok, Err}
+use Rattle.refusals.specs.declared.Refusal.{Refusal}
+use Rattle.refusals.specs.Number.{number_of}
+use Rattle.refusals.specs.Chain.{first_failing}
 use Rattle.section.specs.Section.{Counted}
 use Rattle.section.specs.declared.Links.{Links}
 use Rattle.section.specs.declared.Load.{Load}
@@ -9,15 +11,19 @@ use Rattle.record.specs.Map.{record_length}
 use Rattle.record.specs.Layout.{map_of, record_of}
 use Rattle.record.specs.Refusals.{write_tests}
 
--- by the first test that fails, 0 for none: a success answers the length and changes that many first bytes and no others; a refusal
--- changes none
-abbrev pub written_by : ℕ → ℕ → Written
-written_by n zero = record { refusal = 0; length = n }
-written_by n (suc k) = record { refusal = suc k; length = 0 }
+-- a success answers the length, a refusal its number
+abbrev pub written_as : Result ℕ Refusal → Written
+written_as (Ok n) = record { refusal = 0; length = n }
+written_as (Err r) = record { refusal = number_of r; length = 0 }
 
-abbrev pub changed_by : List ℕ → List ℕ → ℕ → List ℕ
-changed_by bytes buf zero = bytes ++ drop (length bytes) buf
-changed_by bytes buf (suc k) = buf
+-- by the first test that fails: a success answers the length and changes that many first bytes and no others; a refusal changes none
+abbrev pub written_by : ℕ → Option Refusal → Written
+written_by n None = written_as (Ok n)
+written_by n (Some r) = written_as (Err r)
+
+abbrev pub changed_by : List ℕ → List ℕ → Option Refusal → List ℕ
+changed_by bytes buf None = bytes ++ drop (length bytes) buf
+changed_by bytes buf (Some r) = buf
 
 abbrev pub written_of : Counted → Links → Load → List ℕ → Written
 written_of c links l buf = written_by (record_length (map_of c links l)) (first_failing (write_tests c links l buf))

@@ -1,54 +1,36 @@
-// Big-endian numbers of any width in a slice of bytes, and two's complement.
-ghost use Rattle.std.specs.Prelude.{◌≡◌, ◌+◌, ◌^◌, ◌<◌, ◌≤◌, length};
-ghost use Rattle.record.specs.Bytes.{number_at, bytes_of, placed, signed, unsigned};
+// Big-endian numbers in a slice of bytes: of four bytes without a sign, of eight bytes in two's complement. (Two functions, as std has no trait for
+// `from_be_bytes`; and with a place beside the slice, here and in the reader: where a field lies follows from the map.)
+ghost use Rattle.std.specs.Prelude.{◌≡◌, ◌+◌, ◌≤◌, length, take, drop};
+ghost use Rattle.record.specs.Bytes.{number_at, placed, signed};
 
-// The number that n bytes make from `at` on.
-pub fn big_endian(s: &[u8], at: usize, n: usize) -> u64
-    requires { (at + n ≤ length s.now) × (n ≤ 8) }
-    ensures { (result ≡ number_at s.now at n) × (result < 256 ^ n) }
+// The N bytes from `at` on.
+fn bytes_at<const N: usize>(s: &[u8], at: usize) -> [u8; N]
+    requires { at + N ≤ length s.now }
+    ensures { result ≡ take N (drop at s.now) }
 {
-    let mut v = 0u64;
-    let mut i = 0usize;
-    while i < n {
-        v = v * 256 + s[at + i] as u64;
-        i += 1;
-    }
-    v
+    *s[at..].first_chunk().unwrap()
 }
 
-// The n lowest bytes of v, from `at` on.
-pub fn put_big_endian(buf: &mut [u8], at: usize, n: usize, v: u64)
-    requires { at + n ≤ length buf.old }
-    ensures { buf.new ≡ placed buf.old at (bytes_of n v) }
+// The number that the four bytes from `at` on make.
+pub fn u32_at(s: &[u8], at: usize) -> u32
+    requires { at + 4 ≤ length s.now }
+    ensures { result ≡ number_at s.now at 4 }
 {
-    let mut i = n;
-    let mut rest = v;
-    while i > 0 {
-        i -= 1;
-        buf[at + i] = (rest % 256) as u8;
-        rest /= 256;
-    }
+    u32::from_be_bytes(bytes_at(s, at))
 }
 
-// The number whose two's complement is v: v − 2^64 is −1 less 2^64 − 1 − v.
-pub fn to_signed(v: u64) -> i64
-    ensures { result ≡ signed v }
+// The number whose two's complement the eight bytes from `at` on make.
+pub fn i64_at(s: &[u8], at: usize) -> i64
+    requires { at + 8 ≤ length s.now }
+    ensures { result ≡ signed (number_at s.now at 8) }
 {
-    if v < 9223372036854775808 {
-        v as i64
-    } else {
-        -1 - (18446744073709551615 - v) as i64
-    }
+    i64::from_be_bytes(bytes_at(s, at))
 }
 
-// The two's complement of x.
-pub fn to_unsigned(x: i64) -> u64
-    ensures { result ≡ unsigned x }
+// Copies bytes into a lent buffer, from `at` on.
+pub fn put(buffer: &mut [u8], at: usize, bytes: &[u8])
+    requires { at + length bytes.now ≤ length buffer.old }
+    ensures { buffer.new ≡ placed buffer.old at bytes.now }
 {
-    let a = arith::magnitude(x);
-    if x < 0 {
-        18446744073709551615 - a + 1
-    } else {
-        a
-    }
+    buffer[at..at + bytes.len()].copy_from_slice(bytes);
 }

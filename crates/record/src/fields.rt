@@ -1,4 +1,5 @@
-// The table of fields, bit by bit, as specs/Fields.antt has it. Reader and writer ask it what stands at a bit.
+// The table of fields, bit by bit, as specs/Fields.antt has it. Reader and writer ask it what stands at a bit. A bit is a u32, as shifts and
+// std's counts have it, and a place a usize: hence the cast, which loses nothing.
 ghost use Rattle.std.specs.Prelude.{◌≡◌, ◌<◌};
 ghost use Rattle.record.specs.Fields.{field_of, missing};
 
@@ -77,10 +78,7 @@ pub fn missing_value(f: Field) -> i64
     ensures { result ≡ missing f }
 {
     match f {
-        Field::Must(_) => 0,
         Field::May(_, d) => d,
-        Field::LinkPair => 0,
-        Field::LayerAt(_) => 0,
-        Field::Unused => 0,
+        _ => 0,
     }
 }

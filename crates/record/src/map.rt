@@ -1,15 +1,15 @@
-// The map of a record: its bits, and what follows from how many of them stand.
+// The map of a record: its bits, and what follows from how many of them stand. std counts bits in u32, and a length is a usize: hence the
+// casts, which lose nothing.
 ghost use Rattle.std.specs.Prelude.{◌≡◌, ◌<◌};
 ghost use Rattle.record.specs.Map.{stands, offset, record_length, only_fields, complete};
 
 use super::fields::WIDTH;
-use arith::both;
 
 // The length of a record with this map: 4 bytes, and 8 for each bit that stands.
 pub fn record_length(map: u32) -> usize
     ensures { result ≡ record_length map }
 {
-    4 + 8 * (u32::count_ones(map) as usize)
+    4 + 8 * (map.count_ones() as usize)
 }
 
 // Where the bytes of bit k begin: past the map and the fields of the lower bits.
@@ -17,7 +17,7 @@ pub fn field_offset(map: u32, k: u32) -> usize
     requires { k < 32 }
     ensures { result ≡ offset map k }
 {
-    4 + 8 * (u32::count_ones(map % (1u32 << k)) as usize)
+    4 + 8 * ((map % (1u32 << k)).count_ones() as usize)
 }
 
 pub fn bit_stands(map: u32, k: u32) -> bool
@@ -34,10 +34,10 @@ pub fn only_fields(map: u32) -> bool
     map >> WIDTH == 0
 }
 
-// Do the fields stand that must? Test 23.
+// Do the fields stand that must, those of bits 0 to 3? Test 23. (Four, written out as the test names them.)
+#[tactic(auto, unfolding(crate::specs::Map::complete, crate::specs::Map::complete_to))]
 pub fn is_complete(map: u32) -> bool
     ensures { result ≡ complete map }
 {
-    let low = both(bit_stands(map, 1), bit_stands(map, 0));
-    both(bit_stands(map, 3), both(bit_stands(map, 2), low))
+    bit_stands(map, 3) && bit_stands(map, 2) && bit_stands(map, 1) && bit_stands(map, 0)
 }

@@ -1,203 +1,228 @@
 // Read a record: document 01, "When a call is turned down".
-ghost use Rattle.std.specs.Prelude.{true, ◌≡◌, ◌+◌, ◌<◌, ◌≤◌, length};
-ghost use Rattle.arith.specs.Chain.{first_failing};
+ghost use Rattle.std.specs.Prelude.{true, ◌≡◌, ◌+◌, ◌<◌, ◌≤◌, length, IfOk};
+ghost use Rattle.std.specs.Result.{result_err};
+ghost use Rattle.refusals.specs.Number.{number_or_0};
+ghost use Rattle.refusals.specs.Chain.{first_failing};
 ghost use Rattle.record.specs.Fields.{field_of, is_number};
 ghost use Rattle.record.specs.Bytes.{number_at};
 ghost use Rattle.record.specs.Map.{record_length};
 ghost use Rattle.record.specs.Contents.{number_of, links_in, layer_at, layers_in, filled, section_of, load_of};
-ghost use Rattle.record.specs.Refusals.{read_tests};
-ghost use Rattle.record.specs.Read.{refused_reading, read_of, RestIgnored};
+ghost use Rattle.record.specs.Refusals.{map_in, map_tests, held_tests, read_tests};
+ghost use Rattle.record.specs.Read.{read_of, RestIgnored};
+ghost use Rattle.record.specs.Code.Answer.{reading_as};
 
 use super::Reading;
-use super::bytes::{big_endian, to_signed};
+use super::bytes::{i64_at, u32_at};
 use super::fields::{LINKS, field_of, missing_value};
 use super::map::{bit_stands, field_offset, is_complete, only_fields, record_length};
 use materials::Grade;
-use section::refusals::{no_links, record_refusal};
+use refusals::Refusal;
+use section::acceptance::{no_links, test_record};
 use section::{Layer, Links, Load, Section};
-
-// The number of bit k, or what it is where the bit does not stand.
-fn number(s: &[u8], map: u32, k: u32) -> i64
-    requires { (is_number (field_of k) ≡ true) × (k < 32) × (record_length map ≤ length s.now) }
-    ensures { result ≡ number_of s.now map k }
-{
-    if bit_stands(map, k) {
-        let at = field_offset(map, k);
-        to_signed(big_endian(s, at, 8))
-    } else {
-        missing_value(field_of(k))
-    }
-}
-
-// Two numbers of four bytes each.
-#[derive(Clone, Copy)]
-struct Pair {
-    first: u32,
-    second: u32,
-}
-
-// Those that begin at `at`.
-fn pair_at(s: &[u8], at: usize) -> Pair
-    requires { at + 8 ≤ length s.now }
-    ensures { (result.first ≡ number_at s.now at 4) × (result.second ≡ number_at s.now (at + 4) 4) }
-{
-    let x = big_endian(s, at, 4) as u32;
-    let y = big_endian(s, at + 4, 4) as u32;
-    Pair {
-        first: x,
-        second: y,
-    }
-}
-
-// The links, present where their bit stands: their area comes before their spacing.
-fn links_of(s: &[u8], map: u32) -> Links
-    requires { record_length map ≤ length s.now }
-    ensures { result ≡ links_in s.now map }
-{
-    if bit_stands(map, LINKS) {
-        let at = field_offset(map, LINKS);
-        let p = pair_at(s, at);
-        Links {
-            present: 1,
-            area: p.first,
-            spacing: p.second,
-        }
-    } else {
-        no_links()
-    }
-}
 
 // The layer whose eight bytes begin at `at`.
 fn layer(s: &[u8], at: usize) -> Layer
     requires { at + 8 ≤ length s.now }
     ensures { result ≡ layer_at s.now at }
 {
-    let p = pair_at(s, at);
     Layer {
-        depth: p.first,
-        area: p.second,
+        depth: u32_at(s, at),
+        area: u32_at(s, at + 4),
     }
 }
 
-// The layers of a record, with zeros beyond them.
+// A record that was read.
 #[derive(Clone, Copy)]
-struct Layers {
-    count: usize,
-    places: [Layer; 16],
+struct Record {
+    length: usize,
+    section: Section,
+    load: Load,
 }
 
-// The layers, by rising bit: the place j has bit 8 + j.
-fn all_layers(s: &[u8], map: u32) -> Layers
-    requires { record_length map ≤ length s.now }
-    ensures { (result.count ≡ length (layers_in s.now map)) × (result.places ≡ filled (layers_in s.now map)) }
-{
-    let mut places = [Layer { depth: 0, area: 0 }; 16];
-    let mut count = 0usize;
-    let mut j = 0u32;
-    while j < 16 {
-        let k = 8 + j;
-        if bit_stands(map, k) {
-            let at = field_offset(map, k);
-            places[count] = layer(s, at);
-            count += 1;
+// Why none was read, and the length that is answered.
+#[derive(Clone, Copy)]
+struct Refused {
+    refusal: Refusal,
+    length: usize,
+}
+
+// Bytes that hold a record: as many as its map calls for.
+#[derive(Clone, Copy)]
+struct Mapped<'a> {
+    bytes: &'a [u8],
+    map: u32,
+    ghost whole: { record_length map ≤ length bytes.now },
+}
+
+impl<'a> Mapped<'a> {
+    // The record that the bytes begin with, where its map passes the tests 20, 21 and 22.
+    fn new(bytes: &'a [u8]) -> Result<Mapped<'a>, Refusal>
+        ensures refusal { result_err result ≡ first_failing (map_tests bytes.now) }
+        ensures ok { IfOk result (λ r. (r.bytes.now ≡ bytes.now) × (r.map ≡ map_in bytes.now)) }
+    {
+        Refusal::MapCut.unless(4 <= bytes.len())?;
+        let map = u32_at(bytes, 0);
+        Refusal::UnknownField.unless(only_fields(map))?;
+        Refusal::RecordCut.unless(record_length(map) <= bytes.len())?;
+        Ok(Mapped { bytes, map })
+    }
+
+    // The number of bit k, or what it is where the bit does not stand. (Bits by their numbers, as the table of the record has them.)
+    fn number(&self, k: u32) -> i64
+        requires { is_number (field_of k) ≡ true }
+        ensures { result ≡ number_of self.now.bytes.now self.now.map k }
+    {
+        if bit_stands(self.map, k) {
+            i64_at(self.bytes, field_offset(self.map, k))
+        } else {
+            missing_value(field_of(k))
         }
-        j += 1;
     }
-    Layers {
-        count: count,
-        places: places,
+
+    // The links, present where their bit stands: their area comes before their spacing.
+    fn links(&self) -> Links
+        ensures { result ≡ links_in self.now.bytes.now self.now.map }
+    {
+        if bit_stands(self.map, LINKS) {
+            let at = field_offset(self.map, LINKS);
+            Links {
+                present: 1,
+                area: u32_at(self.bytes, at),
+                spacing: u32_at(self.bytes, at + 4),
+            }
+        } else {
+            no_links()
+        }
+    }
+
+    // The layers by rising bit, the place j has bit 8 + j, with zeros beyond them; and how many they are. No ArrayVec: its places would be
+    // copied into the section's own, which is no plainer.
+    fn layers(&self) -> ([Layer; 16], usize)
+        ensures places { result.0 ≡ filled (layers_in self.now.bytes.now self.now.map) }
+        ensures count { result.1 ≡ length (layers_in self.now.bytes.now self.now.map) }
+    {
+        let mut places = [Layer { depth: 0, area: 0 }; 16];
+        let mut count = 0;
+        for j in 0..16 {
+            let k = 8 + j;
+            if bit_stands(self.map, k) {
+                places[count] = layer(self.bytes, field_offset(self.map, k));
+                count += 1;
+            }
+        }
+        (places, count)
+    }
+
+    fn section(&self) -> Section
+        ensures { result ≡ section_of self.now.bytes.now self.now.map }
+    {
+        let (layers, count) = self.layers();
+        Section {
+            layers,
+            width: self.number(0),
+            height: self.number(1),
+            grade: Grade {
+                fck: self.number(2),
+                fyk: self.number(3),
+                situation: self.number(24),
+                alphacc: self.number(25),
+            },
+            links: self.links(),
+            count,
+        }
+    }
+
+    fn load(&self) -> Load
+        ensures { result ≡ load_of self.now.bytes.now self.now.map }
+    {
+        Load {
+            n: self.number(4),
+            m: self.number(5),
+            v: self.number(6),
+        }
+    }
+
+    // All that the bits hold, and the length that follows from them.
+    fn record(&self) -> Record
+        ensures length { result.length ≡ record_length self.now.map }
+        ensures section { result.section ≡ section_of self.now.bytes.now self.now.map }
+        ensures load { result.load ≡ load_of self.now.bytes.now self.now.map }
+    {
+        Record {
+            length: record_length(self.map),
+            section: self.section(),
+            load: self.load(),
+        }
     }
 }
 
-fn section_of(s: &[u8], map: u32) -> Section
-    requires { record_length map ≤ length s.now }
-    ensures { result ≡ section_of s.now map }
-{
-    let l = all_layers(s, map);
-    let places = l.places;
-    Section {
-        layers: places,
-        width: number(s, map, 0),
-        height: number(s, map, 1),
-        grade: Grade {
-            fck: number(s, map, 2),
-            fyk: number(s, map, 3),
-            situation: number(s, map, 24),
-            alphacc: number(s, map, 25),
-        },
-        links: links_of(s, map),
-        count: l.count,
+// What is answered of a refusal besides its number and its length. (Written out: a `Default` of these structs would offer a section that no call
+// accepts.)
+const NO_SECTION: Section = Section {
+    layers: [Layer { depth: 0, area: 0 }; 16],
+    width: 0,
+    height: 0,
+    grade: Grade {
+        fck: 0,
+        fyk: 0,
+        situation: 0,
+        alphacc: 0,
+    },
+    links: Links {
+        present: 0,
+        area: 0,
+        spacing: 0,
+    },
+    count: 0,
+};
+
+const NO_LOAD: Load = Load { n: 0, m: 0, v: 0 };
+
+impl From<Result<Record, Refused>> for Reading {
+    ghost from_gives = { λ answer r. r ≡ reading_as answer };
+
+    fn from(answer: Result<Record, Refused>) -> Reading {
+        match answer {
+            Ok(record) => Reading {
+                refusal: 0,
+                length: record.length,
+                section: record.section,
+                load: record.load,
+            },
+            Err(refused) => Reading {
+                refusal: refused.refusal.number(),
+                length: refused.length,
+                section: NO_SECTION,
+                load: NO_LOAD,
+            },
+        }
     }
 }
 
-fn load_of(s: &[u8], map: u32) -> Load
-    requires { record_length map ≤ length s.now }
-    ensures { result ≡ load_of s.now map }
+// The test 23, and then the section tests, the load tests and those of the links.
+fn test_held(map: u32, r: &Record) -> Result<(), Refusal>
+    ensures { result_err result ≡ first_failing (held_tests map r.now.section r.now.load) }
 {
-    Load {
-        n: number(s, map, 4),
-        m: number(s, map, 5),
-        v: number(s, map, 6),
-    }
+    Refusal::FieldMissing.unless(is_complete(map))?;
+    test_record(&r.section, &r.load)
 }
 
-// A refusal with the length that it names, and zeros.
-fn refuse(number: u64, bytes: usize) -> Reading
-    ensures { result ≡ refused_reading number bytes }
+// A refusal by the tests of the map, 20 to 22, answers no length, and one by those after them does.
+fn record_in(bytes: &[u8]) -> Result<Record, Refused>
+    ensures { reading_as result ≡ read_of bytes.now }
 {
-    let layers = [Layer { depth: 0, area: 0 }; 16];
-    let section = Section {
-        layers: layers,
-        width: 0,
-        height: 0,
-        grade: Grade {
-            fck: 0,
-            fyk: 0,
-            situation: 0,
-            alphacc: 0,
-        },
-        links: no_links(),
-        count: 0,
-    };
-    let load = Load { n: 0, m: 0, v: 0 };
-    Reading {
-        refusal: number,
-        length: bytes,
-        section: section,
-        load: load,
-    }
+    let mapped = Mapped::new(bytes).map_err(|refusal| Refused { refusal, length: 0 })?;
+    let record = mapped.record();
+    let length = record.length;
+    test_held(mapped.map, &record).map_err(|refusal| Refused { refusal, length })?;
+    Ok(record)
 }
 
 // The record that the bytes begin with, or why there is none: 20, 21, 22, 23, then the section tests, the load tests and those of the links.
 pub fn read(bytes: &[u8]) -> Reading
     ensures value { result ≡ read_of bytes.now }
-    ensures refusal { result.refusal ≡ first_failing (read_tests bytes.now) }
+    ensures refusal { result.refusal ≡ number_or_0 (first_failing (read_tests bytes.now)) }
     ensures rest_ignored { RestIgnored bytes.now result }
 {
-    if bytes.len() < 4 {
-        return refuse(20, 0);
-    }
-    let map = big_endian(bytes, 0, 4) as u32;
-    if !only_fields(map) {
-        return refuse(21, 0);
-    }
-    let length = record_length(map);
-    if bytes.len() < length {
-        return refuse(22, 0);
-    }
-    if !is_complete(map) {
-        return refuse(23, length);
-    }
-    let section = section_of(bytes, map);
-    let load = load_of(bytes, map);
-    let k = record_refusal(section, load);
-    if k != 0 {
-        return refuse(k as u64, length);
-    }
-    Reading {
-        refusal: 0,
-        length: length,
-        section: section,
-        load: load,
-    }
+    Reading::from(record_in(bytes))
 }

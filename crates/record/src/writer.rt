@@ -1,138 +1,141 @@
 // Write a record: document 01, "When a call is turned down".
-ghost use Rattle.std.specs.Prelude.{true, ◌≡◌, ◌<◌, ◌≤◌, ◌++◌, length, get_or};
-ghost use Rattle.arith.specs.Chain.{first_failing};
-ghost use Rattle.section.specs.Section.{layers_of, counted, no_layer, links_of};
+ghost use Rattle.std.specs.Prelude.{true, ◌≡◌, ◌<◌, ◌≤◌, ◌++◌, length};
+ghost use Rattle.refusals.specs.Number.{number_or_0};
+ghost use Rattle.refusals.specs.Chain.{first_failing};
+ghost use Rattle.section.specs.Section.{counted, links_of};
 ghost use Rattle.record.specs.Bytes.{bytes_of, placed};
 ghost use Rattle.record.specs.Map.{record_length};
-ghost use Rattle.record.specs.Layout.{value_of, layer_bytes, field_bytes, writes, map_of, fields};
 ghost use Rattle.record.specs.Refusals.{write_tests};
-ghost use Rattle.record.specs.Write.{written_of, buffer_of};
+ghost use Rattle.record.specs.Write.{written_as, written_of, buffer_of};
 ghost use Rattle.record.specs.RoundTrip.{ReadsBack};
 
 use super::Written;
-use super::bytes::{put_big_endian, to_unsigned};
+use super::bytes::put;
 use super::fields::{Field, Number, WIDTH, field_of};
 use super::map::{bit_stands, record_length};
-use section::refusals::{layer_at, record_refusal};
+use refusals::Refusal;
+use section::acceptance::test_record;
 use section::{Load, Section};
 
-// The number of that name.
-fn number_of(s: Section, l: Load, x: Number) -> i64
-    ensures { result ≡ value_of (counted s) l x }
+// The bytes of two numbers, one after the other.
+fn pair_bytes(x: u32, y: u32) -> [u8; 8]
+    ensures { result ≡ bytes_of 4 x ++ bytes_of 4 y }
 {
-    match x {
-        Number::Width => s.width,
-        Number::Height => s.height,
-        Number::Fck => s.grade.fck,
-        Number::Fyk => s.grade.fyk,
-        Number::Axial => l.n,
-        Number::Moment => l.m,
-        Number::Shear => l.v,
-        Number::Situation => s.grade.situation,
-        Number::LongTerm => s.grade.alphacc,
-    }
+    let [a, b, c, d] = x.to_be_bytes();
+    let [e, f, g, h] = y.to_be_bytes();
+    [a, b, c, d, e, f, g, h]
 }
 
-// Is a field written? A number not where it is what a missing one is; the links where they are present; a layer where it is counted.
-fn is_written(s: Section, l: Load, f: Field) -> bool
-    ensures { result ≡ writes (counted s) (links_of s) l f }
-{
-    match f {
-        Field::Must(_) => true,
-        Field::May(x, d) => !arith::in_range(d, d, number_of(s, l, x)),
-        Field::LinkPair => !(s.links.present == 0),
-        Field::LayerAt(i) => i < s.count,
-        Field::Unused => false,
-    }
+// What is written: a section that passed its tests, with its load.
+#[derive(Clone, Copy)]
+struct Content<'a> {
+    section: &'a Section,
+    load: &'a Load,
+    ghost few: { section.now.count ≤ 16 },
 }
 
-// The eight bytes of two numbers as one number.
-fn pair_value(x: u32, y: u32) -> u64
-    ensures { bytes_of 8 result ≡ bytes_of 4 x ++ bytes_of 4 y }
-{
-    (x as u64) * 4294967296 + y as u64
-}
+impl Content<'_> {
+    ghost use Rattle.record.specs.Code.Content.{value_in, writes_in, bytes_in, map_written, fields_in};
 
-// The eight bytes of a layer as one number: the depth stands before the area.
-fn layer_value(s: Section, i: usize) -> u64
-    requires { (i < s.count) × (s.count ≤ 16) }
-    ensures { bytes_of 8 result ≡ layer_bytes (get_or (layers_of s) i no_layer) }
-{
-    let y = layer_at(s, i);
-    pair_value(y.depth, y.area)
-}
-
-// The eight bytes of a field that is written, as one number.
-fn field_value(s: Section, l: Load, f: Field) -> u64
-    requires { (s.count ≤ 16) × (writes (counted s) (links_of s) l f ≡ true) }
-    ensures { bytes_of 8 result ≡ field_bytes (counted s) (links_of s) l f }
-{
-    match f {
-        Field::Must(x) => to_unsigned(number_of(s, l, x)),
-        Field::May(x, _) => to_unsigned(number_of(s, l, x)),
-        Field::LinkPair => pair_value(s.links.area, s.links.spacing),
-        Field::LayerAt(i) => layer_value(s, i),
-        Field::Unused => 0,
-    }
-}
-
-// The map: the bits of the fields that are written.
-fn map_of(s: Section, l: Load) -> u32
-    ensures { result ≡ map_of (counted s) (links_of s) l }
-{
-    let mut map = 0u32;
-    let mut k = 0u32;
-    while k < WIDTH {
-        if is_written(s, l, field_of(k)) {
-            map += 1u32 << k;
+    // The number of that name.
+    fn number(&self, x: Number) -> i64
+        ensures { result ≡ value_in self.now x }
+    {
+        match x {
+            Number::Width => self.section.width,
+            Number::Height => self.section.height,
+            Number::Fck => self.section.grade.fck,
+            Number::Fyk => self.section.grade.fyk,
+            Number::Axial => self.load.n,
+            Number::Moment => self.load.m,
+            Number::Shear => self.load.v,
+            Number::Situation => self.section.grade.situation,
+            Number::LongTerm => self.section.grade.alphacc,
         }
-        k += 1;
     }
-    map
-}
 
-// The fields, lowest bit first, after the four bytes of the map.
-fn put_fields(s: Section, l: Load, map: u32, buf: &mut [u8])
-    requires { (s.count ≤ 16) × (map ≡ map_of (counted s) (links_of s) l) × (record_length map ≤ length buf.old) }
-    ensures { buf.new ≡ placed buf.old 4 (fields (counted s) (links_of s) l) }
-{
-    let mut at = 4usize;
-    let mut k = 0u32;
-    while k < WIDTH {
-        if bit_stands(map, k) {
-            put_big_endian(buf, at, 8, field_value(s, l, field_of(k)));
-            at += 8;
+    // Is a field written? A number not where it is what a missing one is; the links where they are present; a layer where it is counted.
+    fn writes(&self, f: Field) -> bool
+        ensures { result ≡ writes_in self.now f }
+    {
+        match f {
+            Field::Must(_) => true,
+            Field::May(x, d) => self.number(x) != d,
+            Field::LinkPair => self.section.links.present != 0,
+            Field::LayerAt(i) => i < self.section.count,
+            Field::Unused => false,
         }
-        k += 1;
+    }
+
+    // The eight bytes of a field that is written: the links' area stands before their spacing, a layer's depth before its area.
+    fn bytes(&self, f: Field) -> [u8; 8]
+        requires { writes_in self.now f ≡ true }
+        ensures { result ≡ bytes_in self.now f }
+    {
+        match f {
+            Field::Must(x) | Field::May(x, _) => self.number(x).to_be_bytes(),
+            Field::LinkPair => pair_bytes(self.section.links.area, self.section.links.spacing),
+            Field::LayerAt(i) => {
+                let y = self.section.layers[i];
+                pair_bytes(y.depth, y.area)
+            }
+            Field::Unused => [0; 8],
+        }
+    }
+
+    // The map: the bits of the fields that are written.
+    fn map(&self) -> u32
+        ensures { result ≡ map_written self.now }
+    {
+        let mut map = 0;
+        for k in 0..WIDTH {
+            if self.writes(field_of(k)) {
+                map += 1u32 << k;
+            }
+        }
+        map
+    }
+
+    // The fields, lowest bit first, after the four bytes of the map. (The place goes on only at a bit that stands.)
+    fn put_fields(&self, map: u32, buffer: &mut [u8])
+        requires map_is { map ≡ map_written self.now }
+        requires room { record_length map ≤ length buffer.old }
+        ensures { buffer.new ≡ placed buffer.old 4 (fields_in self.now) }
+    {
+        let mut at = 4;
+        for k in 0..WIDTH {
+            if bit_stands(map, k) {
+                put(buffer, at, &self.bytes(field_of(k)));
+                at += 8;
+            }
+        }
     }
 }
 
-// The record at the start of the buffer; or the refusal, the section tests, the load tests, those of the links, then 25, and no byte changed.
-pub fn write(s: Section, l: Load, buf: &mut [u8]) -> Written
-    ensures value { result ≡ written_of (counted s) (links_of s) l buf.old }
-    ensures lent { buf.new ≡ buffer_of (counted s) (links_of s) l buf.old }
-    ensures refusal { result.refusal ≡ first_failing (write_tests (counted s) (links_of s) l buf.old) }
-    ensures round_trip { ReadsBack s l result buf.new }
+// The record at the start of the buffer, and its length; or the refusal, the section tests, the load tests, those of the links, then 25.
+fn put_record(s: &Section, l: &Load, buffer: &mut [u8]) -> Result<usize, Refusal>
+    ensures value { written_as result ≡ written_of (counted s.now) (links_of s.now) l.now buffer.old }
+    ensures lent { buffer.new ≡ buffer_of (counted s.now) (links_of s.now) l.now buffer.old }
 {
-    let k = record_refusal(s, l);
-    if k != 0 {
-        return Written {
-            refusal: k as u64,
-            length: 0,
-        };
-    }
-    let map = map_of(s, l);
+    test_record(s, l)?;
+    let content = Content {
+        section: s,
+        load: l,
+    };
+    let map = content.map();
     let length = record_length(map);
-    if buf.len() < length {
-        return Written {
-            refusal: 25,
-            length: 0,
-        };
-    }
-    put_big_endian(buf, 0, 4, map as u64);
-    put_fields(s, l, map, buf);
-    Written {
-        refusal: 0,
-        length: length,
-    }
+    Refusal::BufferTooShort.unless(length <= buffer.len())?;
+    put(buffer, 0, &map.to_be_bytes());
+    content.put_fields(map, buffer);
+    Ok(length)
+}
+
+// The record at the start of the buffer; or the refusal, and no byte changed.
+pub fn write(s: Section, l: Load, buffer: &mut [u8]) -> Written
+    ensures value { result ≡ written_of (counted s) (links_of s) l buffer.old }
+    ensures lent { buffer.new ≡ buffer_of (counted s) (links_of s) l buffer.old }
+    ensures refusal { result.refusal ≡ number_or_0 (first_failing (write_tests (counted s) (links_of s) l buffer.old)) }
+    ensures round_trip { ReadsBack s l result buffer.new }
+{
+    Written::from(put_record(&s, &l, buffer))
 }

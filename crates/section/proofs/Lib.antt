@@ -2,7 +2,7 @@ pub mod Walk
 pub mod OneLayer
 pub mod Usable
 pub mod Turned
-pub mod InColumns
-pub mod Opened
 pub mod CountedLinks
 pub mod Rearranged
+pub mod InColumns
+pub mod Opened

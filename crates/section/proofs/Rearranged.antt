@@ -1,6 +1,6 @@
 -- The sequence of the layers makes no difference to the section tests, and a call that it makes none to further on answers the same.
 -- Assumes nothing.
-use Prim.Native.Nat.{ℕ, zero, suc}
+use Prim.Native.Nat.{ℕ}
 use mathlib.Core.Bool.{true}
 use mathlib.Core.List.{List, ◌++◌}
 use mathlib.Core.Logic.{◌↔◌}
@@ -8,16 +8,16 @@ use mathlib.Core.Path.{◌≡◌, refl, fun_ext, ◌∙◌}
 use borrow.Author.Tests.{eqb-true, eq-eqb}
 use lib.Dec.{eqb}
 use lib.IntN.{nat_abs}
-use Rattle.arith.specs.Chain.{first_failing}
+use Rattle.std.specs.Prelude.{Option, None, Some, Result, Ok, Err}
+use Rattle.refusals.specs.declared.Refusal.{Refusal}
+use Rattle.refusals.specs.Chain.{first_failing}
 use Rattle.arith.specs.Rearranged.{Rearranged, times}
 use Rattle.arith.proofs.Rearranged.{every_same, map_same, bags_same}
 use Rattle.arith.proofs.Test.{both_true}
 use Rattle.materials.specs.Answer.{materials_of}
-use Rattle.materials.specs.declared.Answer.{Answer}
-use Rattle.materials.specs.declared.Answer.TheVariants.{Known, Refused}
+use Rattle.materials.specs.declared.Materials.{Materials}
 use Rattle.section.specs.declared.Layer.{Layer}
 use Rattle.section.specs.declared.Design.{Design}
-use Rattle.section.specs.declared.Accepted.{Accepted}
 use Rattle.section.specs.Section.{Counted, depth_ok, area_ok}
 use Rattle.section.specs.Refusals.{section_tests, accepted_as, accepted, answer}
 use Rattle.section.specs.Turned.{turned_layer, turned}
@@ -65,10 +65,10 @@ module _ {c d : Counted} (same : SameBars c d) where
         same.count,
       )
 
-  accepted_as_lem : (k : ℕ) (a : Answer) → accepted_as k c a ≡ accepted_as k d a
-  accepted_as_lem (suc k) a = refl
-  accepted_as_lem zero (Known m) = rw (same.width, same.height)
-  accepted_as_lem zero (Refused k) = refl
+  accepted_as_lem : (k : Option Refusal) (a : Result Materials Refusal) → accepted_as k c a ≡ accepted_as k d a
+  accepted_as_lem (Some r) a = refl
+  accepted_as_lem None (Ok m) = rw (same.width, same.height)
+  accepted_as_lem None (Err r) = refl
 
   accepted_same : accepted c ≡ accepted d
   unfolding accepted
@@ -77,8 +77,8 @@ module _ {c d : Counted} (same : SameBars c d) where
       ∙ (λ i. accepted_as (first_failing (tests_same i)) d (materials_of (same.grade i)))
 
   -- A call, by what it finds of an accepted section and by its tests after the section's: where these are the same of both, it answers the same.
-  module _ {A : Type 0} (refused : ℕ → A) (found : Counted → Design → A) (tests : Counted → Accepted → List ℕ) where
-    pub call_same : ((x : Design) → found c x ≡ found d x) → ((a : Accepted) → tests c a ≡ tests d a)
-        → answer refused (found c) (first_failing (section_tests c ++ tests c (accepted c))) (accepted c)
-        ≡ answer refused (found d) (first_failing (section_tests d ++ tests d (accepted d))) (accepted d)
+  module _ {A : Type 0} (found : Counted → Design → A) (tests : Counted → Result Design Refusal → List (Option Refusal)) where
+    pub call_same : ((x : Design) → found c x ≡ found d x) → ((a : Result Design Refusal) → tests c a ≡ tests d a)
+        → answer (found c) (first_failing (section_tests c ++ tests c (accepted c))) (accepted c)
+        ≡ answer (found d) (first_failing (section_tests d ++ tests d (accepted d))) (accepted d)
     call_same finds asks = rw (fun_ext finds, fun_ext asks, tests_same, accepted_same)

@@ -3,35 +3,37 @@
 use Prim.Native.Nat.{ℕ, zero, suc, ◌≤◌}
 use mathlib.Core.Bool.{Bool, true, false, ◌&&◌, ◌||◌}
 use mathlib.Core.List.{List, [], ◌∷◌, ◌++◌}
-use mathlib.Core.Path.{◌≡◌, refl, sym, ap, subst, ◌∙◌}
+use mathlib.Core.Path.{◌≡◌, refl, sym, ap, ◌∙◌}
 use native.Mathlib.Omega.{arith}
-use lib.Dec.{leb, lit≤}
+use lib.Dec.{leb}
 use lib.IntN.{ℤ, pos, nat_abs}
 use lib.ListN.{length, take, drop}
 use borrow.Author.Tests.{leb-true}
-use Rattle.arith.specs.Chain.{first_failing, OneOf}
+use Rattle.std.specs.Prelude.{Option, None, Some, Result, Ok, Err}
+use Rattle.std.specs.Result.{result_err}
+use Rattle.std.proofs.lemmas.Option.{none-some}
 use Rattle.arith.specs.Integer.{in_range}
-use Rattle.arith.proofs.Chain.{first_of, or_first, both_zero, test_passed, above_zero, among, some_one_of, test-one_of, first-one_of}
+use Rattle.refusals.specs.declared.Refusal.{Refusal}
+use Rattle.refusals.specs.declared.Refusal.TheVariants.{Width, Height, LayerCount, LayerDepth, LayerArea}
+use Rattle.refusals.specs.declared.Refusal.TheVariants.{AxialForce, BendingMoment, ShearForce, LinkArea, LinkSpacing, LinksUnderForce}
+use Rattle.refusals.specs.Chain.{first_failing}
+use Rattle.refusals.proofs.Chain.{first_of, both_none, test_passed, among, Among, no_test, first_among, test_among}
 use Rattle.arith.proofs.Range.{natural, symmetric}
 use Rattle.arith.proofs.Test.{both_true, clash}
 use Rattle.materials.specs.Answer as materials
 use Rattle.materials.proofs.Promise.{promise}
-use Rattle.materials.specs.declared.Answer.{Answer}
-use Rattle.materials.specs.declared.Answer.TheVariants as looked
-use Rattle.materials.specs.declared.Grade.{Grade}
 use Rattle.materials.specs.declared.Materials.{Materials}
 use Rattle.section.specs.declared.Layer.{Layer}
 use Rattle.section.specs.declared.Section.{Section}
 use Rattle.section.specs.declared.Links.{Links}
 use Rattle.section.specs.declared.Load.{Load}
 use Rattle.section.specs.declared.Design.{Design}
-use Rattle.section.specs.declared.Accepted.{Accepted}
-use Rattle.section.specs.declared.Accepted.TheVariants.{Ready, Refused}
 use Rattle.section.specs.Section.{layers_of, Counted, counted, all, depth_ok, area_ok, absent, link_area_ok, link_spacing_ok}
 use Rattle.section.specs.Load.{force_ok, moment_ok}
 use Rattle.section.specs.Refusals.{layer_tests, section_tests, section_refusals, design_of, accepted_as}
-use Rattle.section.specs.Refusals.{accepted, refusal_number, load_tests, link_tests, load_link_tests, load_link_refusals, answer}
-use Rattle.section.specs.Code.Columns.{layers_in, in_columns}
+use Rattle.section.specs.Refusals.{accepted, load_tests, link_tests, load_link_tests, load_link_refusals, answer}
+use Rattle.section.specs.Code.Accepted.{AcceptedOf, layers_in, design_in}
+use Rattle.section.specs.declared.Accepted.{Accepted}
 use Rattle.section.specs.Code.Usable.{Bounded, Usable, LayerOk, SectionPromise, PromisedSection, LoadOk, LinksOk}
 use Rattle.section.proofs.OneLayer.{layer-high, layer-ok}
 use Rattle.section.proofs.Walk.{all-at}
@@ -41,56 +43,60 @@ use Rattle.section.proofs.Walk.{all-at}
 pub record NoneFails (c : Counted) : Type 0 where
   pub width : in_range (pos 50) (pos 2000) c.width ≡ true
   pub height : in_range (pos 50) (pos 2000) c.height ≡ true
-  pub grade : materials.refusal_number (materials.materials_of c.grade) ≡ 0
-  pub layers : first_failing (layer_tests (nat_abs c.height) c.count c.layers) ≡ 0
+  pub grade : result_err (materials.materials_of c.grade) ≡ None
+  pub layers : first_failing (layer_tests (nat_abs c.height) c.count c.layers) ≡ None
 
-none_fails : (c : Counted) → first_failing (section_tests c) ≡ 0 → NoneFails c
+none_fails : (c : Counted) → first_failing (section_tests c) ≡ None → NoneFails c
 unfolding section_tests
 none_fails c e =
-    let w = test_passed 1 (in_range (pos 50) (pos 2000) c.width) _ (lit≤ tt) e in
-    let h = test_passed 2 (in_range (pos 50) (pos 2000) c.height) _ (lit≤ tt) w.1 in
-    let g = both_zero (materials.refusal_number (materials.materials_of c.grade)) _ h.1 in
+    let w = test_passed Width (in_range (pos 50) (pos 2000) c.width) _ e in
+    let h = test_passed Height (in_range (pos 50) (pos 2000) c.height) _ w.1 in
+    let g = both_none (result_err (materials.materials_of c.grade)) _ h.1 in
     record { width = w.0; height = h.0; grade = g.0; layers = g.1 }
 
--- the numbers that they have
-pub section_one_of : (c : Counted) → OneOf (0 ∷ section_refusals) (first_failing (section_tests c))
+-- the refusals that they have
+pub section_among : (c : Counted) → Among section_refusals (first_failing (section_tests c))
 unfolding section_tests
-section_one_of c =
-    test-one_of 1 (in_range (pos 50) (pos 2000) c.width) (record { member = tt }) (
-    test-one_of 2 (in_range (pos 50) (pos 2000) c.height) (record { member = tt }) (
-    first-one_of (materials.refusal_number (materials.materials_of c.grade)) (grade_refused (materials.materials_of c.grade) (promise c.grade)) (
-    test-one_of 5 (leb 1 c.count && leb c.count 16) (record { member = tt }) (
-    test-one_of 6 (all (depth_ok (nat_abs c.height)) c.layers) (record { member = tt }) (
-    test-one_of 7 (all area_ok c.layers) (record { member = tt }) (record { member = tt }))))))
+section_among c =
+    test_among Width (in_range (pos 50) (pos 2000) c.width) (record { member = tt }) (
+    test_among Height (in_range (pos 50) (pos 2000) c.height) (record { member = tt }) (
+    first_among (result_err (materials.materials_of c.grade)) (grade_refused (materials.materials_of c.grade) (promise c.grade)) (
+    test_among LayerCount (leb 1 c.count && leb c.count 16) (record { member = tt }) (
+    test_among LayerDepth (all (depth_ok (nat_abs c.height)) c.layers) (record { member = tt }) (
+    test_among LayerArea (all area_ok c.layers) (record { member = tt }) no_test)))))
   where
-    grade_refused : (a : Answer) → materials.Promised c.grade a → OneOf (0 ∷ section_refusals) (materials.refusal_number a)
-    grade_refused (looked.Known m) p = record { member = tt }
-    grade_refused (looked.Refused k) p = among (0 ∷ section_refusals) materials.grade_refusals tt p
+    grade_refused : (a : Result Materials Refusal) → materials.Promised c.grade a → Among section_refusals (result_err a)
+    grade_refused (Ok m) p = no_test
+    grade_refused (Err r) p = record { some = among section_refusals materials.grade_refusals tt p }
 
 -- ---- their promise
 
 layers_usable : (c : Counted) {m : Materials} → Bounded (design_of c m) → length c.layers ≤ c.count
-    → first_failing (layer_tests (nat_abs c.height) c.count c.layers) ≡ 0
+    → first_failing (layer_tests (nat_abs c.height) c.count c.layers) ≡ None
     → Usable (design_of c m) c.count c.layers
 layers_usable c ok most e =
-    let n = test_passed 5 (leb 1 c.count && leb c.count 16) _ (lit≤ tt) e in
-    let d = test_passed 6 (all (depth_ok (nat_abs c.height)) c.layers) _ (lit≤ tt) n.1 in
-    let a = test_passed 7 (all area_ok c.layers) 0 (lit≤ tt) d.1 in
+    let n = test_passed LayerCount (leb 1 c.count && leb c.count 16) _ e in
+    let d = test_passed LayerDepth (all (depth_ok (nat_abs c.height)) c.layers) _ n.1 in
+    let a = test_passed LayerArea (all area_ok c.layers) None d.1 in
     let range = both_true (leb 1 c.count) (leb c.count 16) n.0 in
     record { bounded = ok; count_low = leb-true 1 _ range.0; count_high = leb-true _ 16 range.1; counted = most; depths = d.0; areas = a.0 }
 
--- by cases of the first that fails and of the materials
-promised : (c : Counted) (k : ℕ) (a : Answer) → length c.layers ≤ c.count → first_failing (section_tests c) ≡ k → materials.materials_of c.grade ≡ a
-    → materials.Promised c.grade a
-    → PromisedSection c (accepted_as k c a)
-promised c (suc k) a most e m p = some_one_of (suc k) (subst (OneOf (0 ∷ section_refusals)) e (section_one_of c)) (omega arith)
-promised c zero (looked.Refused k) most e m p = among section_refusals materials.grade_refusals tt p
-promised c zero (looked.Known g) most e m p =
-    let n = none_fails c e in
+-- of materials that are known, where no test fails
+usable_with : (c : Counted) {m : Materials} → length c.layers ≤ c.count → NoneFails c → materials.Promise c.grade m → SectionPromise c (design_of c m)
+usable_with c {m} most n p =
     let b = natural 50 2000 c.width n.width in
     let h = natural 50 2000 c.height n.height in
-    let ok : Bounded (design_of c g) = record { b-low = b.low; b-high = b.high; h-low = h.low; h-high = h.high; materials = p.bounds } in
+    let ok : Bounded (design_of c m) = record { b-low = b.low; b-high = b.high; h-low = h.low; h-high = h.high; materials = p.bounds } in
     record { asked = record { width_is = b.is; height_is = h.is; grade_is = p.asked }; usable = layers_usable c ok most n.layers }
+
+-- by cases of the first that fails and of the materials
+promised : (c : Counted) (k : Option Refusal) (a : Result Materials Refusal) → length c.layers ≤ c.count → first_failing (section_tests c) ≡ k
+    → materials.materials_of c.grade ≡ a
+    → materials.Promised c.grade a
+    → PromisedSection c (accepted_as k c a)
+promised c (Some r) a most e m p = let s = section_among c in (rw e at s).some
+promised c None (Err r) most e m p = among section_refusals materials.grade_refusals tt p
+promised c None (Ok g) most e m p = usable_with c most (none_fails c e) p
 
 take-most : (n : ℕ) (ls : List Layer) → length (take n ls) ≤ n
 take-most zero ls = omega arith
@@ -104,115 +110,83 @@ promise_of c most = promised c (first_failing (section_tests c)) (materials.mate
 pub section_promise : (s : Section) → PromisedSection (counted s) (accepted (counted s))
 section_promise s = promise_of (counted s) (take-most s.count s.layers)
 
-pub usable_by : (s : Section) {x : Design} → accepted (counted s) ≡ Ready x → Usable x s.count (layers_of s)
+pub usable_by : (s : Section) {x : Design} → accepted (counted s) ≡ Ok x → Usable x s.count (layers_of s)
 usable_by s e = (rw e at (section_promise s)).usable
 
 -- ---- their refusal is that of the first that fails
 
-numbered : (c : Counted) (k : ℕ) (a : Answer) → first_failing (section_tests c) ≡ k → materials.materials_of c.grade ≡ a → materials.Promised c.grade a
-    → refusal_number (accepted_as k c a) ≡ k
-numbered c (suc k) a e m p = refl
-numbered c zero (looked.Known g) e m p = refl
-numbered c zero (looked.Refused k) e m p =
-    let z : k ≡ 0 = rw m at (none_fails c e).grade in
-    z
+refused_as : (c : Counted) (k : Option Refusal) (a : Result Materials Refusal) → first_failing (section_tests c) ≡ k → materials.materials_of c.grade ≡ a
+    → result_err (accepted_as k c a) ≡ k
+refused_as c (Some r) a e m = refl
+refused_as c None (Ok g) e m = refl
+refused_as c None (Err r) e m = rw m at (none_fails c e).grade
 
-pub section_refusal : (c : Counted) → refusal_number (accepted c) ≡ first_failing (section_tests c)
+pub section_refusal : (c : Counted) → result_err (accepted c) ≡ first_failing (section_tests c)
 unfolding accepted
-section_refusal c = numbered c (first_failing (section_tests c)) (materials.materials_of c.grade) refl refl (promise c.grade)
+section_refusal c = refused_as c (first_failing (section_tests c)) (materials.materials_of c.grade) refl refl
 
--- the other clauses of `accept` follow from its first
-module _ (width height : ℤ) (grade : Grade) (count : ℕ) (depths areas : List ℕ) where
-  abbrev c : Counted
-  c = in_columns width height grade count depths areas
+-- ---- the answers of `accept`
 
-  pub accept_clauses : {r : Accepted} → r ≡ accepted c
-      → (r ≡ accepted c) × ((refusal_number r ≡ first_failing (section_tests c)) × PromisedSection c r)
-  accept_clauses e = (e, (rw e (section_refusal c), rw e (promise_of c (take-most count (layers_in 16 depths areas)))))
+-- what it answers of a section that is refused, or accepted: the definition's answer
+pub refused_is : (c : Counted) {r : Refusal} → first_failing (section_tests c) ≡ Some r → Err r ≡ accepted c
+unfolding accepted
+refused_is c e = rw e
 
--- ---- the answers of `accept`, where b and h pass: the materials' refusal, the layers', or none
-
-module _ (c : Counted) (width : in_range (pos 50) (pos 2000) c.width ≡ true) (height : in_range (pos 50) (pos 2000) c.height ≡ true) where
-  pub by_materials : {k : ℕ} → materials.materials_of c.grade ≡ looked.Refused k → Refused k ≡ accepted c
-  unfolding accepted section_tests
-  by_materials {k} e =
-      let low : 1 ≤ k = above_zero materials.grade_refusals tt (rw e at (promise c.grade)) in
-      rw (width, height, e, or_first k (first_failing (layer_tests (nat_abs c.height) c.count c.layers)) low) (go k)
-    where
-      go : (k : ℕ) → Refused k ≡ accepted_as k c (looked.Refused k)
-      go zero = refl
-      go (suc k) = refl
-
-  by_layers : {m : Materials} → materials.materials_of c.grade ≡ looked.Known m
-      → accepted_as (first_failing (layer_tests (nat_abs c.height) c.count c.layers)) c (looked.Known m) ≡ accepted c
-  unfolding accepted section_tests
-  by_layers e = rw (width, height, e)
-
-  module _ {m : Materials} {k : ℕ} (known : materials.materials_of c.grade ≡ looked.Known m)
-      (layers : k ≡ first_failing (layer_tests (nat_abs c.height) c.count c.layers)) where
-    pub layers_refused : (k ≡ 0 → ⊥) → Refused k ≡ accepted c
-    layers_refused some = go k some ∙ rw layers (by_layers known)
-      where
-        go : (k : ℕ) → (k ≡ 0 → ⊥) → Refused k ≡ accepted_as k c (looked.Known m)
-        go zero some = absurd (some refl)
-        go (suc k) some = refl
-
-    pub none_refused : k ≡ 0 → Ready (design_of c m) ≡ accepted c
-    none_refused none = rw (sym layers ∙ none) at (by_layers known)
+pub ready_is : (c : Counted) {m : Materials} → first_failing (section_tests c) ≡ None → materials.materials_of c.grade ≡ Ok m → Ok (design_of c m) ≡ accepted c
+unfolding accepted
+ready_is c e m = rw (e, m)
 
 -- ---- a call that takes a section: its tests are the section tests and then `rest`
 
-module _ (s : Section) (rest : List ℕ) where
+module _ (s : Section) (rest : List (Option Refusal)) where
   -- nothing more is asked of a section that is refused; of one that is accepted, the rest
-  first_refused : {k : ℕ} → accepted (counted s) ≡ Refused k → (first_failing (section_tests (counted s) ++ rest) ≡ k) × (1 ≤ k)
-  first_refused {k} e =
-      let is : k ≡ first_failing (section_tests (counted s)) = rw e at (section_refusal (counted s)) in
-      let low : 1 ≤ k = above_zero section_refusals tt (rw e at (section_promise s)) in
-      (first_of (section_tests (counted s)) rest ∙ rw (sym is) (or_first k (first_failing rest) low), low)
-
-  after_ready : {x : Design} → accepted (counted s) ≡ Ready x → first_failing (section_tests (counted s) ++ rest) ≡ first_failing rest
-  after_ready e =
-      let is : 0 ≡ first_failing (section_tests (counted s)) = rw e at (section_refusal (counted s)) in
+  first_refused : {r : Refusal} → accepted (counted s) ≡ Err r → first_failing (section_tests (counted s) ++ rest) ≡ Some r
+  first_refused {r} e =
+      let is : Some r ≡ first_failing (section_tests (counted s)) = rw e at (section_refusal (counted s)) in
       first_of (section_tests (counted s)) rest ∙ rw (sym is)
 
-module _ {A : Type 0} (refused : ℕ → A) (found : Design → A) where
-  refused_is : {k : ℕ} (j : ℕ) (a : Accepted) → 1 ≤ k → j ≡ k → answer refused found j a ≡ refused k
-  refused_is zero a low e = absurd (omega arith)
-  refused_is (suc j) a low e = ap refused e
+  after_ready : {x : Design} → accepted (counted s) ≡ Ok x → first_failing (section_tests (counted s) ++ rest) ≡ first_failing rest
+  after_ready e =
+      let is : None ≡ first_failing (section_tests (counted s)) = rw e at (section_refusal (counted s)) in
+      first_of (section_tests (counted s)) rest ∙ rw (sym is)
 
-  module _ (s : Section) (rest : Accepted → List ℕ) where
+module _ {A : Type 0} (found : Design → A) where
+  module _ (s : Section) (rest : Result Design Refusal → List (Option Refusal)) where
     -- a section that is refused
-    pub call_refused : {k : ℕ} → accepted (counted s) ≡ Refused k
-        → answer refused found (first_failing (section_tests (counted s) ++ rest (accepted (counted s)))) (accepted (counted s)) ≡ refused k
-    call_refused e = let first = first_refused s (rest (accepted (counted s))) e in refused_is _ (accepted (counted s)) first.1 first.0
+    pub call_refused : {r : Refusal} → accepted (counted s) ≡ Err r
+        → answer found (first_failing (section_tests (counted s) ++ rest (accepted (counted s)))) (accepted (counted s)) ≡ Err r
+    call_refused e = rw (first_refused s (rest (accepted (counted s))) e)
 
     -- one that is accepted: the rest decides
-    pub call_ready : {x : Design} → accepted (counted s) ≡ Ready x
-        → answer refused found (first_failing (section_tests (counted s) ++ rest (accepted (counted s)))) (accepted (counted s)) ≡ answer refused found
-        (first_failing (rest (Ready x))) (Ready x)
+    pub call_ready : {x : Design} → accepted (counted s) ≡ Ok x
+        → answer found (first_failing (section_tests (counted s) ++ rest (accepted (counted s)))) (accepted (counted s))
+        ≡ answer found (first_failing (rest (Ok x))) (Ok x)
     call_ready {x} e = rw (after_ready s (rest (accepted (counted s))) e, e)
 
-    -- the number of the answer is that of the first test that fails
-    pub call_numbered : (number : A → ℕ) → ((k : ℕ) → number (refused k) ≡ k) → ((x : Design) → number (found x) ≡ 0)
-        → number (answer refused found (first_failing (section_tests (counted s) ++ rest (accepted (counted s)))) (accepted (counted s)))
+    -- the refusal of the answer is that of the first test that fails
+    pub call_refusal : result_err (answer found (first_failing (section_tests (counted s) ++ rest (accepted (counted s)))) (accepted (counted s)))
         ≡ first_failing (section_tests (counted s) ++ rest (accepted (counted s)))
-    call_numbered number of-refused of-found = go (accepted (counted s)) _ refl refl
+    call_refusal = go (accepted (counted s)) _ refl refl
       where
-        go : (a : Accepted) (k : ℕ) → accepted (counted s) ≡ a → first_failing (section_tests (counted s) ++ rest (accepted (counted s))) ≡ k
-            → number (answer refused found k a) ≡ k
-        go a (suc k) e f = of-refused (suc k)
-        go (Ready x) zero e f = of-found x
-        go (Refused j) zero e f =
-            let z = (both_zero (first_failing (section_tests (counted s))) _ (sym (first_of (section_tests (counted s)) _) ∙ f)).0 in
-            of-refused j ∙ (rw e at (section_refusal (counted s))) ∙ z
+        go : (a : Result Design Refusal) (k : Option Refusal) → accepted (counted s) ≡ a
+            → first_failing (section_tests (counted s) ++ rest (accepted (counted s))) ≡ k
+            → result_err (answer found k a) ≡ k
+        go a (Some r) e f = refl
+        go (Ok x) None e f = refl
+        go (Err j) None e f = absurd (none-some j (sym f ∙ first_refused s (rest (accepted (counted s))) e))
+
+-- what `accept` answers of a section that it accepts
+pub accepted_of : (s : Section) {r : Result Accepted Refusal} {a : Accepted} → design_in r ≡ accepted (counted s) → layers_in a ≡ layers_of s → r ≡ Ok a
+    → AcceptedOf s a
+accepted_of s {r} {a} value layers is = record { ready = sym value ∙ ap design_in is; layers_are = layers }
 
 -- ---- a load that passed
 
-pub load_ok : (l : Load) → first_failing (load_tests l) ≡ 0 → LoadOk l
+pub load_ok : (l : Load) → first_failing (load_tests l) ≡ None → LoadOk l
 load_ok l e =
-    let n = test_passed 8 (force_ok l.n) _ (lit≤ tt) e in
-    let m = test_passed 9 (moment_ok l.m) _ (lit≤ tt) n.1 in
-    let v = test_passed 10 (force_ok l.v) 0 (lit≤ tt) m.1 in
+    let n = test_passed AxialForce (force_ok l.n) _ e in
+    let m = test_passed BendingMoment (moment_ok l.m) _ n.1 in
+    let v = test_passed ShearForce (force_ok l.v) None m.1 in
     record { n_in = symmetric 500000000 l.n n.0; m_in = symmetric 1000000000000 l.m m.0; v-in = symmetric 500000000 l.v v.0 }
 
 -- ---- links that passed
@@ -228,11 +202,11 @@ is_zero z e =
     let none : nat_abs z ≡ 0 = omega (arith, w.high) in
     w.is ∙ ap pos none
 
-pub links-ok : (k : Links) (l : Load) → first_failing (link_tests k l) ≡ 0 → LinksOk k l
+pub links-ok : (k : Links) (l : Load) → first_failing (link_tests k l) ≡ None → LinksOk k l
 links-ok k l e =
-    let a = test_passed 27 (absent k || link_area_ok k) _ (lit≤ tt) e in
-    let s = test_passed 28 (absent k || link_spacing_ok k) _ (lit≤ tt) a.1 in
-    let n = test_passed 29 (absent k || in_range (pos 0) (pos 0) l.n) 0 (lit≤ tt) s.1 in
+    let a = test_passed LinkArea (absent k || link_area_ok k) _ e in
+    let s = test_passed LinkSpacing (absent k || link_spacing_ok k) _ a.1 in
+    let n = test_passed LinksUnderForce (absent k || in_range (pos 0) (pos 0) l.n) None s.1 in
     record {
       ranges = λ h.
           let area = both_true (leb 1 k.area) (leb k.area 5000) (or_present a.0 h) in
@@ -245,24 +219,24 @@ links-ok k l e =
       no_axial = λ h. is_zero l.n (or_present n.0 h);
     }
 
--- the numbers that the tests of load and links have
-pub load_link_one_of : (k : Links) (l : Load) → OneOf (0 ∷ load_link_refusals) (first_failing (load_link_tests k l))
-load_link_one_of k l =
-    test-one_of 8 (force_ok l.n) (record { member = tt }) (
-    test-one_of 9 (moment_ok l.m) (record { member = tt }) (
-    test-one_of 10 (force_ok l.v) (record { member = tt }) (
-    test-one_of 27 (absent k || link_area_ok k) (record { member = tt }) (
-    test-one_of 28 (absent k || link_spacing_ok k) (record { member = tt }) (
-    test-one_of 29 (absent k || in_range (pos 0) (pos 0) l.n) (record { member = tt }) (record { member = tt }))))))
+-- the refusals that the tests of load and links have
+pub load_link_among : (k : Links) (l : Load) → Among load_link_refusals (first_failing (load_link_tests k l))
+load_link_among k l =
+    test_among AxialForce (force_ok l.n) (record { member = tt }) (
+    test_among BendingMoment (moment_ok l.m) (record { member = tt }) (
+    test_among ShearForce (force_ok l.v) (record { member = tt }) (
+    test_among LinkArea (absent k || link_area_ok k) (record { member = tt }) (
+    test_among LinkSpacing (absent k || link_spacing_ok k) (record { member = tt }) (
+    test_among LinksUnderForce (absent k || in_range (pos 0) (pos 0) l.n) (record { member = tt }) no_test)))))
 
 -- both passed
 pub record LoadLinksOk (k : Links) (l : Load) : Type 0 where
   pub load : LoadOk l
   pub links : LinksOk k l
 
-pub load-links-ok : (k : Links) (l : Load) → first_failing (load_link_tests k l) ≡ 0 → LoadLinksOk k l
+pub load-links-ok : (k : Links) (l : Load) → first_failing (load_link_tests k l) ≡ None → LoadLinksOk k l
 load-links-ok k l e =
-    let both = both_zero (first_failing (load_tests l)) (first_failing (link_tests k l)) (sym (first_of (load_tests l) (link_tests k l)) ∙ e) in
+    let both = both_none (first_failing (load_tests l)) (first_failing (link_tests k l)) (sym (first_of (load_tests l) (link_tests k l)) ∙ e) in
     record { load = load_ok l both.0; links = links-ok k l both.1 }
 
 -- a section, a load and links that passed all their tests
@@ -271,15 +245,16 @@ pub record AllPassed (c : Counted) (k : Links) (l : Load) : Type 0 where
   pub section : SectionPromise c design
   pub loaded : LoadLinksOk k l
 
-passed_by : (c : Counted) (k : Links) (l : Load) (a : Accepted) → PromisedSection c a → refusal_number a ≡ 0 → first_failing (load_link_tests k l) ≡ 0
+passed_by : (c : Counted) (k : Links) (l : Load) (a : Result Design Refusal) → PromisedSection c a → result_err a ≡ None
+    → first_failing (load_link_tests k l) ≡ None
     → AllPassed c k l
-passed_by c k l (Ready x) p z e = record { design = x; section = p; loaded = load-links-ok k l e }
-passed_by c k l (Refused j) p z e = absurd (omega (arith, above_zero section_refusals tt p))
+passed_by c k l (Ok x) p z e = record { design = x; section = p; loaded = load-links-ok k l e }
+passed_by c k l (Err j) p z e = absurd (none-some j (sym z))
 
-pub all_passed : (s : Section) (k : Links) (l : Load) → first_failing (section_tests (counted s) ++ load_link_tests k l) ≡ 0 → AllPassed (counted s) k l
+pub all_passed : (s : Section) (k : Links) (l : Load) → first_failing (section_tests (counted s) ++ load_link_tests k l) ≡ None → AllPassed (counted s) k l
 all_passed s k l e =
     let tests = section_tests (counted s) in
-    let both = both_zero (first_failing tests) (first_failing (load_link_tests k l)) (sym (first_of tests (load_link_tests k l)) ∙ e) in
+    let both = both_none (first_failing tests) (first_failing (load_link_tests k l)) (sym (first_of tests (load_link_tests k l)) ∙ e) in
     passed_by (counted s) k l (accepted (counted s)) (section_promise s) (section_refusal (counted s) ∙ both.0) both.1
 
 -- ---- one layer, and what is left after it

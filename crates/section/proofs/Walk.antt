@@ -1,6 +1,6 @@
 -- A walk over a section's layers: what is left of the list, one layer at a time. Assumes nothing.
 use mathlib.Core.Path.{◌≡◌, refl, sym, ap, ◌∙◌}
-use mathlib.Core.Bool.{Bool, true, ◌&&◌}
+use mathlib.Core.Bool.{Bool, true}
 use mathlib.Core.List.{List, [], ◌∷◌}
 use Prim.Native.Nat.{ℕ, zero, suc, ◌+◌, ◌≤◌, ◌<◌}
 use native.Mathlib.Numerals.{add-one}
@@ -9,7 +9,7 @@ use lib.IntN.{ℤ, pos, ◌+ℤ◌, +ℤ_idr}
 use lib.ListN.{length, take, drop, get_or}
 use lib.Seq.{drop-cons, get_or-take, length-take-le}
 use Rattle.arith.proofs.Ring.{#, ◌⊕◌, ring}
-use Rattle.arith.proofs.Test.{both_true, and_assoc, and_idr}
+use Rattle.arith.proofs.Test.{both_true}
 use Rattle.section.specs.declared.Layer.{Layer}
 use Rattle.section.specs.declared.Section.{Section}
 use Rattle.section.specs.Section.{no_layer, layers_of, all}
@@ -26,20 +26,6 @@ next_of n places i sixteen few h =
 
 pub next : (s : Section) (i : ℕ) → length s.layers ≡ 16 → s.count ≤ 16 → i < s.count → Next s i
 next s i = next_of s.count s.layers i
-
--- at n nothing is left
-pub over : (n : ℕ) (ls : List Layer) → drop n (take n ls) ≡ []
-over zero ls = refl
-over (suc n) [] = refl
-over (suc n) (l ∷ ls) = over n ls
-
--- a test over all layers, with the outcome t so far: zs is what is left, l the next layer and ys what is left after it
-module _ (p : Layer → Bool) (t : Bool) (ls : List Layer) {zs : List Layer} where
-  pub all_step : {u : Bool} {ys : List Layer} {l : Layer} → zs ≡ l ∷ ys → u ≡ t && p l → t && all p zs ≡ all p ls → u && all p ys ≡ all p ls
-  all_step {ys} {l} nx e inv = rw e (and_assoc t (p l) (all p ys) ∙ (rw nx at inv))
-
-  pub all_done : zs ≡ [] → t && all p zs ≡ all p ls → t ≡ all p ls
-  all_done nx inv = sym (and_idr t) ∙ (rw nx at inv)
 
 -- what passed of all layers passes of the one at i
 all_drop : (p : Layer → Bool) (i : ℕ) (ls : List Layer) → all p ls ≡ true → all p (drop i ls) ≡ true

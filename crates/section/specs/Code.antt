@@ -1,3 +1,4 @@
--- Definitions that only the code needs: what it may assume, and how it holds the layers. No sentence of document 01 stands below this page.
+-- Definitions that only the code needs: what it may assume, and how it holds the layers, now and before. No sentence of document 01 stands below this page.
 pub mod Usable
+pub mod Accepted
 pub mod Columns

@@ -2,113 +2,107 @@
 -- the first that fails gives the refusal. Here stand the tests of a section, of a load and of links, of which the sequences are made. The
 -- sequences of Find a depth and Moment at a depth are on the page `Refusals` of the equilibrium, Check's on that of the clauses, those of
 -- Read a record and Write a record on that of the records. Assumes nothing.
-use Rattle.std.specs.Prelude.{ℕ, zero, suc, ◌&&◌, ◌||◌, List, [], ◌∷◌, ◌++◌, leb, pos, nat_abs}
-use Rattle.arith.specs.Chain.{test, first_failing}
+use Rattle.std.specs.Prelude.{ℕ, ◌&&◌, ◌||◌, List, [], ◌∷◌, ◌++◌, leb, pos, nat_abs, Option, None, Some, Result, Ok, Err}
+use Rattle.std.specs.Result.{result_err}
 use Rattle.arith.specs.Integer.{in_range}
+use Rattle.refusals.specs.Chain.{test, first_failing}
+use Rattle.refusals.specs.declared.Refusal.{Refusal}
+use Rattle.refusals.specs.declared.Refusal.TheVariants.{Width, Height, LayerCount, LayerDepth, LayerArea}
+use Rattle.refusals.specs.declared.Refusal.TheVariants.{AxialForce, BendingMoment, ShearForce, LinkArea, LinkSpacing, LinksUnderForce}
 use Rattle.materials.specs.Answer as materials
-use Rattle.materials.specs.declared.Answer.{Answer}
-use Rattle.materials.specs.declared.Answer.TheVariants.{Known}
-use Rattle.materials.specs.declared.Answer.TheVariants as refused_materials
 use Rattle.materials.specs.declared.Materials.{Materials}
 use Rattle.section.specs.declared.Layer.{Layer}
 use Rattle.section.specs.declared.Links.{Links}
 use Rattle.section.specs.declared.Load.{Load}
 use Rattle.section.specs.declared.Design.{Design}
-use Rattle.section.specs.declared.Accepted.{Accepted}
-use Rattle.section.specs.declared.Accepted.TheVariants.{Ready, Refused}
 use Rattle.section.specs.Section.{Counted, all, depth_ok, area_ok, absent, link_area_ok, link_spacing_ok}
 use Rattle.section.specs.Load.{force_ok, moment_ok}
 
 -- ---- the section tests, part of every call that takes a section
 
 -- of its layers
-abbrev pub layer_tests : ℕ → ℕ → List Layer → List ℕ
+abbrev pub layer_tests : ℕ → ℕ → List Layer → List (Option Refusal)
 layer_tests h count ls =
     -- 5 number of layers
-    test 5 (leb 1 count && leb count 16)
+    test LayerCount (leb 1 count && leb count 16)
     -- 6 a layer's depth
-    ∷ test 6 (all (depth_ok h) ls)
+    ∷ test LayerDepth (all (depth_ok h) ls)
     -- 7 a layer's area
-    ∷ test 7 (all area_ok ls)
+    ∷ test LayerArea (all area_ok ls)
     ∷ []
 
-unfoldable pub section_tests : Counted → List ℕ
+unfoldable pub section_tests : Counted → List (Option Refusal)
 section_tests c =
     -- 1 b
-    test 1 (in_range (pos 50) (pos 2000) c.width)
+    test Width (in_range (pos 50) (pos 2000) c.width)
     -- 2 h
-    ∷ test 2 (in_range (pos 50) (pos 2000) c.height)
+    ∷ test Height (in_range (pos 50) (pos 2000) c.height)
     -- 3 fck not in the table, 4 fyk, 32 situation, 34 αcc: the materials' own tests
-    ∷ materials.refusal_number (materials.materials_of c.grade)
+    ∷ result_err (materials.materials_of c.grade)
     ∷ layer_tests (nat_abs c.height) c.count c.layers
 
--- the numbers that the section tests have
-abbrev pub section_refusals : List ℕ
-section_refusals = 1 ∷ 2 ∷ (materials.grade_refusals ++ (5 ∷ 6 ∷ 7 ∷ []))
+-- the refusals that the section tests have
+abbrev pub section_refusals : List Refusal
+section_refusals = Width ∷ Height ∷ (materials.grade_refusals ++ (LayerCount ∷ LayerDepth ∷ LayerArea ∷ []))
 
 -- what the formulas use of a section with these materials
 abbrev pub design_of : Counted → Materials → Design
 design_of c m = record { b = nat_abs c.width; h = nat_abs c.height; m = m }
 
 -- A section that passed, or the refusal. (The materials of one that passed are known: the last line is never met.)
-abbrev pub accepted_as : ℕ → Counted → Answer → Accepted
-accepted_as (suc k) c a = Refused (suc k)
-accepted_as zero c (Known m) = Ready (design_of c m)
-accepted_as zero c (refused_materials.Refused k) = Refused k
+abbrev pub accepted_as : Option Refusal → Counted → Result Materials Refusal → Result Design Refusal
+accepted_as (Some r) c a = Err r
+accepted_as None c (Ok m) = Ok (design_of c m)
+accepted_as None c (Err r) = Err r
 
-unfoldable pub accepted : Counted → Accepted
+unfoldable pub accepted : Counted → Result Design Refusal
 accepted c = accepted_as (first_failing (section_tests c)) c (materials.materials_of c.grade)
-
--- the paper's number for each case of it: the refusal, 0 for none
-abbrev pub refusal_number : Accepted → ℕ
-refusal_number (Ready x) = 0
-refusal_number (Refused k) = k
 
 -- ---- the load tests
 
-abbrev pub load_tests : Load → List ℕ
+abbrev pub load_tests : Load → List (Option Refusal)
 load_tests l =
     -- 8 N out of range
-    test 8 (force_ok l.n)
+    test AxialForce (force_ok l.n)
     -- 9 M out of range
-    ∷ test 9 (moment_ok l.m)
+    ∷ test BendingMoment (moment_ok l.m)
     -- 10 V out of range
-    ∷ test 10 (force_ok l.v)
+    ∷ test ShearForce (force_ok l.v)
     ∷ []
 
--- the numbers that the load tests have
-abbrev pub load_refusals : List ℕ
-load_refusals = 8 ∷ 9 ∷ 10 ∷ []
+-- the refusals that the load tests have
+abbrev pub load_refusals : List Refusal
+load_refusals = AxialForce ∷ BendingMoment ∷ ShearForce ∷ []
 
 -- ---- the tests of the links, directly after those of the load: 02's ticket 3
 
-abbrev pub link_tests : Links → Load → List ℕ
+abbrev pub link_tests : Links → Load → List (Option Refusal)
 link_tests k l =
     -- 27 the area of links that are present
-    test 27 (absent k || link_area_ok k)
+    test LinkArea (absent k || link_area_ok k)
     -- 28 their spacing
-    ∷ test 28 (absent k || link_spacing_ok k)
+    ∷ test LinkSpacing (absent k || link_spacing_ok k)
     -- 29 links present and N not 0
-    ∷ test 29 (absent k || in_range (pos 0) (pos 0) l.n)
+    ∷ test LinksUnderForce (absent k || in_range (pos 0) (pos 0) l.n)
     ∷ []
 
--- the numbers that they have
-abbrev pub link_refusals : List ℕ
-link_refusals = 27 ∷ 28 ∷ 29 ∷ []
+-- the refusals that they have
+abbrev pub link_refusals : List Refusal
+link_refusals = LinkArea ∷ LinkSpacing ∷ LinksUnderForce ∷ []
 
 -- 8 9 10 and 27 28 29: what Check, Read a record and Write a record ask after the section tests
-abbrev pub load_link_tests : Links → Load → List ℕ
+abbrev pub load_link_tests : Links → Load → List (Option Refusal)
 load_link_tests k l = load_tests l ++ link_tests k l
 
-abbrev pub load_link_refusals : List ℕ
+abbrev pub load_link_refusals : List Refusal
 load_link_refusals = load_refusals ++ link_refusals
 
 -- ---- a call
 
 -- What a call answers of a section: the refusal of its sequence, or what it finds of the accepted section. (A section whose tests are
 -- passed is accepted: the last line is never met.)
-module _ {A : Type 0} (refused : ℕ → A) (found : Design → A) where
-  abbrev pub answer : ℕ → Accepted → A
-  answer (suc k) a = refused (suc k)
-  answer zero (Ready x) = found x
-  answer zero (Refused k) = refused k
+module _ {A : Type 0} (found : Design → A) where
+  abbrev pub answer : Option Refusal → Result Design Refusal → Result A Refusal
+  answer (Some r) a = Err r
+  answer None (Ok x) = Ok (found x)
+  answer None (Err r) = Err r

@@ -3,9 +3,13 @@
 
 #![tactic(auto)]
 
-pub mod columns;
-pub mod refusals;
+pub mod acceptance;
+mod layers;
 
+ghost use Rattle.std.specs.Prelude.{take};
+ghost use Rattle.section.specs.Code.Usable.{Usable};
+
+pub use layers::steel_area;
 use materials::{Grade, Materials};
 
 // A layer of steel: its depth from the top face in mm, and its area in mm².
@@ -57,9 +61,12 @@ pub struct Design {
     pub m: Materials,
 }
 
-// A section that passed its tests, or the number of the first that it failed.
+// A section that passed its tests: what every call computes with. Of the sixteen places the first `count` hold its layers: as in the struct for C,
+// so that they are copied as they lie.
 #[derive(Clone, Copy)]
-pub enum Accepted {
-    Ready(Design),
-    Refused(u8),
+pub struct Accepted {
+    pub design: Design,
+    pub layers: [Layer; 16],
+    pub count: usize,
+    pub ghost usable: { Usable design count (take count layers) },
 }

@@ -1,3 +1,4 @@
 pub mod Pairs
 pub mod Order
+pub mod Library
 pub mod Sorting

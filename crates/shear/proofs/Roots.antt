@@ -1,14 +1,16 @@
 -- The numbers r, q, v and c of the shear resistance: what the code computes of them, how large they are, and that r and q
 -- are the greatest of all numbers that pass, so that their bounds leave nothing out. Assumes nothing.
-use mathlib.Core.Path.{◌≡◌, refl, sym}
+use mathlib.Core.Path.{◌≡◌, refl}
 use mathlib.Core.Bool.{Bool, true, false, cond}
 use Prim.Native.Nat.{ℕ, suc, ◌*◌, ◌/◌, ◌^◌, ◌≤◌, ◌<◌}
 use native.Mathlib.Nat.{mul-le-mul, mul-le-mul_left, mul-one, pow-le-pow_left, le_of_mul-le-mul_right, max-le, div-le_of_le-mul}
 use native.Mathlib.Decide.{dec_le}
 use native.Mathlib.Omega.{arith}
+use Rattle.std.proofs.lemmas.Int.{ints}
 use lib.Dec.{leb, ltb, le→leb}
 use lib.IntN.{ℤ, pos, negsuc, nat_abs, ◌*ℤ◌}
-use lib.Signed.{le_z, ◌≤ℤ◌, ◌<ℤ◌}
+use lib.Signed.{le_z}
+use Rattle.std.specs.Int.{int_min, int_max}
 use borrow.Author.Tests.{leb-true, ltb-false, le-leb}
 use Rattle.arith.specs.Floor.{floor_div}
 use Rattle.arith.specs.Fraction.{whole, ◌*ᶠ◌, ◌/ᶠ◌}
@@ -20,12 +22,10 @@ use Rattle.arith.proofs.Fraction.{tidy, proper, /ᶠ-proper}
 use Rattle.arith.proofs.Greatest.{greatest-le, greatest_of_all, greatest_same}
 use Rattle.arith.proofs.Quotient.{integer-per, by_value, floor_same}
 use Rattle.arith.proofs.Ring.{E, #, ◌⊗◌, val}
-use Rattle.arith.proofs.Test.{P-neg-zero}
 use Rattle.shear.specs.Code.Power.{power_at_most}
 use Rattle.shear.specs.SizeFactor.{K}
-use Rattle.shear.specs.Shear.{r_test, r, q_test, q, v, c, concrete_share, axial_share, or_zero}
+use Rattle.shear.specs.Shear.{r_test, r, q_test, q, v, lesser, c, concrete_share, axial_share, or_zero}
 use Rattle.shear.specs.Code.Ranges.{StressBounds}
-use Rattle.shear.proofs.Powers.{cube}
 
 -- ---- how large they are
 pub K-high : (dm : ℕ) → K dm ≤ 2000
@@ -93,21 +93,22 @@ module _ (b fck As dm : ℕ) where
   r-either true e = r_rich e
   r-either false e = r_other e
 
-pub q_is : (fck k : ℕ) → greatest (power_at_most 2 1000 (fck * k * k * k)) 26832 ≡ q fck k
+pub q_is : (fck k : ℕ) → greatest (power_at_most 2 1000 (fck * k ^ 3)) 26832 ≡ q fck k
 unfolding q
 q_is fck k =
-    greatest_same (power_at_most 2 1000 (fck * k * k * k)) (q_test fck k) 26832
+    greatest_same (power_at_most 2 1000 (fck * k ^ 3)) (q_test fck k) 26832
     (λ x.
-    let e : x ^ 2 * 1000 ≡ 1000 * x ^ 2 = omega arith in
-    rw (cube fck k, e))
+    let left : x ^ 2 * 1000 ≡ 1000 * x ^ 2 = omega arith in
+    let right : fck * k ^ 3 ≡ k ^ 3 * fck = omega arith in
+    rw (left, right))
 
-pub or_zero_negative : (x : ℤ) → x <ℤ pos 0 → 0 ≡ or_zero x
-or_zero_negative (pos k) h = sym (P-neg-zero (pos k) h)
-or_zero_negative (negsuc k) h = refl
+-- the lesser of two and the greater of a number and 0, as std finds them
+pub min_is : (x y : ℤ) → int_min x y ≡ lesser x y
+min_is x y = grind (arith, ints)
 
-pub or_zero-natural : (x : ℤ) → pos 0 ≤ℤ x → nat_abs x ≡ or_zero x
-or_zero-natural (pos k) h = refl
-or_zero-natural (negsuc k) h = absurd h.le
+pub max_is : (x : ℤ) → nat_abs (int_max x (pos 0)) ≡ or_zero x
+max_is (pos k) = grind (arith, ints)
+max_is (negsuc k) = refl
 
 -- ---- the greatest of all: what 01 says of r and q
 -- a number whose power is below that of the next one

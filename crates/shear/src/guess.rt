@@ -1,176 +1,58 @@
-// Square and cube roots from a guess that is tested: nothing is promised of the guess. The number's first bits give one from a table,
-// about two hundredths off at most, and one step of Halley's rule leaves the cube of that. The remainders by powers of two only show that
-// nothing overflows.
-ghost use Rattle.std.specs.Prelude.{◌<◌, ◌≡◌};
+// Roots from a guess that is tested: nothing is promised of the guess. The number's first bits give one from a table, about two hundredths
+// off at most, and one step of Halley's rule leaves the cube of that. The remainders by powers of two only show that nothing overflows.
+// Each `as` is proved not to lose; try_from would add an exit that never comes.
+ghost use Rattle.std.specs.Prelude.{◌<◌, ◌≤◌, ◌≡◌, suc, ◌^◌};
 ghost use Rattle.arith.specs.Greatest.{greatest};
-ghost use Rattle.shear.specs.Code.Power.{power_at_most, PowerFits};
+ghost use Rattle.shear.specs.Code.Power.{power_at_most, PowersFit};
 
 use super::power::greatest_power_near;
 
-// 4,096 times the cube root of (m + 1/2)/8.
-fn cube_start(m: u64) -> u64 {
-    match m {
-        8 => 4180,
-        9 => 4337,
-        10 => 4485,
-        11 => 4623,
-        12 => 4753,
-        13 => 4876,
-        14 => 4994,
-        15 => 5106,
-        16 => 5214,
-        17 => 5317,
-        18 => 5417,
-        19 => 5512,
-        20 => 5605,
-        21 => 5695,
-        22 => 5782,
-        23 => 5866,
-        24 => 5948,
-        25 => 6028,
-        26 => 6106,
-        27 => 6182,
-        28 => 6256,
-        29 => 6328,
-        30 => 6399,
-        31 => 6468,
-        32 => 6536,
-        33 => 6602,
-        34 => 6667,
-        35 => 6731,
-        36 => 6794,
-        37 => 6855,
-        38 => 6915,
-        39 => 6975,
-        40 => 7033,
-        41 => 7091,
-        42 => 7147,
-        43 => 7203,
-        44 => 7257,
-        45 => 7311,
-        46 => 7365,
-        47 => 7417,
-        48 => 7469,
-        49 => 7520,
-        50 => 7570,
-        51 => 7620,
-        52 => 7669,
-        53 => 7717,
-        54 => 7765,
-        55 => 7812,
-        56 => 7859,
-        57 => 7905,
-        58 => 7950,
-        59 => 7995,
-        60 => 8040,
-        61 => 8084,
-        62 => 8127,
-        63 => 8171,
-        _ => 4096,
-    }
-}
+// 8,192 times the cube root of (m + 1/2)/64, for each m.
+pub static CUBE_STARTS: [u16; 64] = [
+    1625, 2344, 2780, 3109, 3381, 3615, 3822, 4009, 4180, 4337, 4485, 4623, 4753, 4876, 4994, 5106,
+    5214, 5317, 5417, 5512, 5605, 5695, 5782, 5866, 5948, 6028, 6106, 6182, 6256, 6328, 6399, 6468,
+    6536, 6602, 6667, 6731, 6794, 6855, 6915, 6975, 7033, 7091, 7147, 7203, 7257, 7311, 7365, 7417,
+    7469, 7520, 7570, 7620, 7669, 7717, 7765, 7812, 7859, 7905, 7950, 7995, 8040, 8084, 8127, 8171,
+];
 
-// 4,096 times the square root of (m + 1/2)/16.
-fn square_start(m: u64) -> u64 {
-    match m {
-        16 => 4160,
-        17 => 4284,
-        18 => 4404,
-        19 => 4522,
-        20 => 4636,
-        21 => 4748,
-        22 => 4857,
-        23 => 4964,
-        24 => 5069,
-        25 => 5171,
-        26 => 5271,
-        27 => 5370,
-        28 => 5467,
-        29 => 5562,
-        30 => 5655,
-        31 => 5747,
-        32 => 5838,
-        33 => 5927,
-        34 => 6015,
-        35 => 6101,
-        36 => 6187,
-        37 => 6271,
-        38 => 6354,
-        39 => 6436,
-        40 => 6517,
-        41 => 6597,
-        42 => 6676,
-        43 => 6754,
-        44 => 6831,
-        45 => 6907,
-        46 => 6983,
-        47 => 7057,
-        48 => 7131,
-        49 => 7204,
-        50 => 7277,
-        51 => 7349,
-        52 => 7420,
-        53 => 7490,
-        54 => 7560,
-        55 => 7629,
-        56 => 7697,
-        57 => 7765,
-        58 => 7832,
-        59 => 7899,
-        60 => 7965,
-        61 => 8030,
-        62 => 8095,
-        63 => 8160,
-        _ => 4096,
-    }
-}
+// 8,192 times the square root of (m + 1/2)/64.
+pub static SQUARE_STARTS: [u16; 64] = [
+    724, 1254, 1619, 1916, 2172, 2401, 2611, 2804, 2985, 3156, 3318, 3473, 3620, 3762, 3899, 4031,
+    4160, 4284, 4404, 4522, 4636, 4748, 4857, 4964, 5069, 5171, 5271, 5370, 5467, 5562, 5655, 5747,
+    5838, 5927, 6015, 6101, 6187, 6271, 6354, 6436, 6517, 6597, 6676, 6754, 6831, 6907, 6983, 7057,
+    7131, 7204, 7277, 7349, 7420, 7490, 7560, 7629, 7697, 7765, 7832, 7899, 7965, 8030, 8095, 8160,
+];
 
-// One step of Halley's rule from g towards the cube root of z. The 1 keeps the divisor from being 0.
-fn cube_step(g: u64, z: u64) -> u64
-    requires { (g < 8192) × (z < 274877906944) }
+// One step of Halley's rule from g towards the Eth root of z. The 1 keeps the divisor from being 0.
+fn step<const E: u32>(g: u64, z: u64) -> u64
+    // (E is 2 or 3 in three functions here: a trait for the two exponents, with that as its law, would be longer than the clause.)
+    requires exponent { (2 ≤ E) × (E ≤ 3) }
+    requires small { (g < 32768) × (z < 274877906944) }
 {
-    let p = g * g * g;
-    g * (p + 2 * z) / (2 * p + z + 1)
+    // `as`: with u64::from the proof did not close
+    let less = E as u64 - 1;
+    let more = E as u64 + 1;
+    let p = g.pow(E);
+    g * (less * p + more * z) / (more * p + less * z + 1)
 }
 
-// The same towards the square root.
-fn square_step(g: u64, z: u64) -> u64
-    requires { (g < 32768) × (z < 1073741824) }
+// About the Eth root of x, for x below 2³⁸. With (2ᴱ)ᵗ the power of 2ᴱ next above it, m is 64·x/(2ᴱ)ᵗ.
+fn guess<const E: u32>(starts: &[u16; 64], x: u64) -> u64
+    requires { (2 ≤ E) × (E ≤ 3) }
 {
-    let p = g * g;
-    g * (p + 3 * z) / (3 * p + z + 1)
+    let z = x % 274877906944;
+    let t = (63 + E - z.leading_zeros()) / E;
+    let m = (64 * z) >> (E * t % 64);
+    let start = u64::from(starts[(m % 64) as usize]);
+    step::<E>((start << t) / 8192 % 32768, z)
 }
 
-// About the cube root of y/a, for a quotient below 2³⁸. With 8ᵗ the power of 8 next above z, m is 64·z/8ᵗ.
-fn cube_guess(a: u64, y: u64) -> u64 {
-    if a < 1 {
-        return 0;
-    }
-    let z = y / a % 274877906944;
-    let t = ((66 - u64::leading_zeros(z)) / 3) as u64;
-    let m = (64 * z) >> (3 * t % 64);
-    cube_step(((cube_start(m) << t) / 8192) % 8192, z)
-}
-
-// About the square root of z, for z below 2³⁰. With 4ᵗ the power of 4 next above z, m is 64·z/4ᵗ.
-fn square_guess(z: u64) -> u64 {
-    let x = z % 1073741824;
-    let t = ((65 - u64::leading_zeros(x)) / 2) as u64;
-    let m = (64 * x) >> (2 * t % 64);
-    square_step(((square_start(m) << t) / 8192) % 32768, x)
-}
-
-// The greatest k up to 5,646 with k³·a at most y, from a guess that is certified.
-pub fn cube_root(a: u64, y: u64) -> u64
-    requires { PowerFits 3 a 5647 }
-    ensures { result ≡ greatest (power_at_most 3 a y) 5646 }
+// The greatest k up to `most` with kᴱ·a at most y, from a guess that is certified.
+pub fn root<const E: u32>(starts: &[u16; 64], a: u64, y: u64, most: u64) -> u64
+    requires exponent { (2 ≤ E) × (E ≤ 3) }
+    requires fits { PowersFit E a (suc most) × (suc most < 2 ^ 64) }
+    ensures { result ≡ greatest (power_at_most E a y) most }
 {
-    greatest_power_near(3, a, y, 5646, cube_guess(a, y))
-}
-
-// The greatest k up to 26,832 with 1,000·k² at most y, likewise.
-pub fn square_root(y: u64) -> u64
-    ensures { result ≡ greatest (power_at_most 2 1000 y) 26832 }
-{
-    greatest_power_near(2, 1000, y, 26832, square_guess(y / 1000))
+    let quotient = y.checked_div(a).unwrap_or(0);
+    greatest_power_near::<E>(a, y, most, guess::<E>(starts, quotient))
 }

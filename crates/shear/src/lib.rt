@@ -1,5 +1,5 @@
 // The shear resistance without shear reinforcement, 6.2.2(1): document 01, "Verdicts", the third, and 02's ticket 8. It takes plain
-// numbers, so it rests on the arithmetic alone.
+// numbers, so it rests on the arithmetic alone. Each `as` is proved not to lose; try_from would add an exit that never comes.
 
 #![tactic(auto)]
 
@@ -7,24 +7,38 @@ mod guess;
 mod power;
 mod size;
 
-ghost use Rattle.std.specs.Prelude.{◌≡◌, max, ◌*◌, ◌≤◌};
+ghost use Rattle.std.specs.Prelude.{◌≡◌, ◌≤◌};
 ghost use Rattle.arith.specs.Integer.{Within};
-ghost use Rattle.shear.specs.Shear.{r, q, v, c, concrete_share, axial_share, or_zero, VRdc};
-ghost use Rattle.shear.specs.Code.Ranges.{StressBounds, ShearBounds};
+ghost use Rattle.shear.specs.Shear.{r, q, v, c, concrete_share, axial_share, VRdc};
 
-use guess::{cube_root, square_root};
+use guess::{CUBE_STARTS, SQUARE_STARTS, root};
 use size::size_factor;
+use std::marker::Model;
 
-// r, from the longitudinal reinforcement ratio As/(b·dm), which counts up to 0.02.
-fn ratio_root(b: u64, fck: u64, area: u64, dm: u64) -> u64
-    requires { StressBounds b fck area dm }
-    ensures { result ≡ r b fck area dm }
-{
-    let concrete = b * dm;
-    let rich = concrete < 50 * area;
-    let a = arith::either(rich, 1, concrete);
-    let y = arith::either(rich, 2000000000 * fck, 100000000000 * area * fck);
-    cube_root(a, y)
+// All that VRd,c is found from: the section's b and h in mm, the concrete's fck in N/mm², its g in hundredths of N/mm² and crd, 100 times
+// CRd,c, the load's N in newtons, and the tension layers' area in mm² and mean depth in mm. A clause sees it under 01's letters.
+#[derive(Drop)]
+pub struct Sheared {
+    pub b: u64,
+    pub h: u64,
+    pub fck: u64,
+    pub g: u64,
+    pub crd: u64,
+    pub n: i64,
+    pub area: u64,
+    pub dm: u64,
+}
+
+impl Model for Sheared {
+    ghost use Rattle.shear.specs.Shear.{Sheared};
+
+    ghost Value = { Sheared };
+
+    ghost use Rattle.shear.specs.Code.Ranges.{ShearBounds};
+
+    ghost view = { λ x. record { b = x.b; h = x.h; fck = x.fck; g = x.g; crd = x.crd; N = x.n; As = x.area; dm = x.dm } };
+
+    ghost invariant = { λ x. ShearBounds record { b = x.b; h = x.h; fck = x.fck; g = x.g; crd = x.crd; N = x.n; As = x.area; dm = x.dm } };
 }
 
 // q, of (6.3N).
@@ -32,74 +46,67 @@ fn least_root(fck: u64, k: u64) -> u64
     requires { (fck ≤ 90) × (k ≤ 2000) }
     ensures { result ≡ q fck k }
 {
-    square_root(fck * k * k * k)
+    root::<2>(&SQUARE_STARTS, 1000, fck * k.pow(3), 26832)
 }
 
-fn greater(x: u64, y: u64) -> u64
-    ensures { result ≡ max x y }
-{
-    if x <= y { y } else { x }
-}
-
-// v, the stress that the concrete carries.
-fn concrete_stress(crd: u64, b: u64, fck: u64, area: u64, dm: u64) -> u64
-    requires { (crd ≤ 15) × StressBounds b fck area dm }
-    ensures { result ≡ v crd b fck area dm }
-{
-    let k = size_factor(dm);
-    let root = ratio_root(b, fck, area, dm);
-    greater(crd * k * root / 100, 35 * least_root(fck, k))
-}
-
-// v·b·dm/1,000,000 in newtons.
-fn concrete_share(crd: u64, b: u64, fck: u64, area: u64, dm: u64) -> u64
-    requires { (crd ≤ 15) × StressBounds b fck area dm }
-    ensures { result ≡ concrete_share crd b fck area dm }
-{
-    concrete_stress(crd, b, fck, area, dm) * b * dm / 1000000
-}
-
-// c: N, but no more than 0.2·g on the whole section.
-fn counted_force(n: i64, g: u64, b: u64, h: u64) -> i64
-    requires { (g ≤ 7500) × ((b ≤ 2000) × (h ≤ 2000)) }
-    ensures { result ≡ c n g b h }
-{
-    let cap = (g * b * h / 500) as i64;
-    if n <= cap { n } else { cap }
-}
-
-// 15·c·dm/(100·h) in newtons, rounded down below zero too.
-fn axial_share(force: i64, dm: u64, h: u64) -> i64
-    requires { Within force 500000000 × ((dm ≤ 1999) × ((1 ≤ h) × (h ≤ 2000))) }
-    ensures { result ≡ axial_share force dm h }
-{
-    arith::floor_div(15 * force * (dm as i64), (100 * h) as i64)
-}
-
-fn or_zero(x: i64) -> u64
-    ensures { result ≡ or_zero x }
-{
-    if x < 0 { 0 } else { x as u64 }
-}
-
-// VRd,c in newtons.
-pub fn shear_resistance(
-    b: u64,
-    h: u64,
-    fck: u64,
-    g: u64,
-    crd: u64,
-    n: i64,
-    area: u64,
-    dm: u64,
-) -> u64
-    requires { ShearBounds (record { b = b; h = h; fck = fck; g = g; crd = crd; N = n; As = area; dm = dm }) }
-    ensures { result ≡ VRdc (record { b = b; h = h; fck = fck; g = g; crd = crd; N = n; As = area; dm = dm }) }
-{
-    if area < 1 {
-        return 0;
+impl Sheared {
+    // r, from the longitudinal reinforcement ratio As/(b·dm), which counts up to 0.02.
+    fn ratio_root(&self) -> u64
+        ensures { result ≡ r self.now.b self.now.fck self.now.As self.now.dm }
+    {
+        let concrete = self.b * self.dm;
+        let rich = concrete < 50 * self.area;
+        let a = arith::either(rich, 1, concrete);
+        let y = arith::either(
+            rich,
+            2000000000 * self.fck,
+            100000000000 * self.area * self.fck,
+        );
+        root::<3>(&CUBE_STARTS, a, y, 5646)
     }
-    let concrete = concrete_share(crd, b, fck, area, dm) as i64;
-    let axial = axial_share(counted_force(n, g, b, h), dm, h);
-    or_zero(concrete + axial)
+
+    // v, the stress that the concrete carries.
+    fn concrete_stress(&self) -> u64
+        ensures { result ≡ v self.now.crd self.now.b self.now.fck self.now.As self.now.dm }
+    {
+        let k = size_factor(self.dm);
+        let stress = self.crd * k * self.ratio_root() / 100;
+        stress.max(35 * least_root(self.fck, k))
+    }
+
+    // v·b·dm/1,000,000 in newtons.
+    fn concrete_share(&self) -> u64
+        ensures { result ≡ concrete_share self.now.crd self.now.b self.now.fck self.now.As self.now.dm }
+    {
+        self.concrete_stress() * self.b * self.dm / 1000000
+    }
+
+    // c: N, but no more than 0.2·g on the whole section.
+    fn counted_force(&self) -> i64
+        ensures value { result ≡ c self.now.N self.now.g self.now.b self.now.h }
+        ensures small { Within result 500000000 }
+    {
+        self.n.min((self.g * self.b * self.h / 500) as i64)
+    }
+
+    // 15·c·dm/(100·h) in newtons, rounded down below zero too.
+    fn axial_share(&self) -> i64
+        ensures { result ≡ axial_share (c self.now.N self.now.g self.now.b self.now.h) self.now.dm self.now.h }
+    {
+        arith::floor_div(
+            15 * self.counted_force() * self.dm as i64,
+            (100 * self.h) as i64,
+        )
+    }
+
+    // VRd,c in newtons: no less than 0.
+    pub fn resistance(&self) -> u64
+        ensures { result ≡ VRdc self.now }
+    {
+        if self.area < 1 {
+            return 0;
+        }
+        let sum = self.concrete_share() as i64 + self.axial_share();
+        sum.max(0) as u64
+    }
 }

@@ -1,9 +1,10 @@
-// The size factor of 6.2.2(1), as the manual prints it: document 01, "Verdicts", the third.
+// The size factor of 6.2.2(1), as the manual prints it: document 01, "Verdicts", the third. Each `as` is proved not to lose;
+// try_from would add an exit that never comes.
 ghost use Rattle.std.specs.Prelude.{◌≡◌, ◌+◌, ◌≤◌, ◌<◌};
 ghost use Rattle.shear.specs.SizeFactor.{K, Printed};
 
 // K in thousandths for each dm from 200 to 1,999. The only place where the table is written.
-const FACTORS: [u16; 1800] = [
+static FACTORS: [u16; 1800] = [
     2000, 1997, 1995, 1992, 1990, 1987, 1985, 1982, 1980, 1978, 1975, 1973, 1971, 1969, 1966, 1964,
     1962, 1960, 1957, 1955, 1953, 1951, 1949, 1947, 1944, 1942, 1940, 1938, 1936, 1934, 1932, 1930,
     1928, 1926, 1924, 1922, 1920, 1918, 1916, 1914, 1912, 1910, 1909, 1907, 1905, 1903, 1901, 1899,
@@ -127,24 +128,6 @@ fn entry(table: &[u16; 1800], i: usize) -> u16
     table[i]
 }
 
-// The entries below 512, for effective depths up to 711 mm. There is no constant that is read where it lies: the compiled code lays the
-// table out on the stack, but only as far as an entry can be asked for. The remainder says how far that is, and changes nothing.
-fn near_factor(i: usize) -> u16
-    requires { i < 512 }
-    ensures { result ≡ K (200 + i) }
-{
-    let table = FACTORS;
-    entry(&table, i % 512)
-}
-
-fn far_factor(i: usize) -> u16
-    requires { i < 1800 }
-    ensures { result ≡ K (200 + i) }
-{
-    let table = FACTORS;
-    entry(&table, i)
-}
-
 // K of an effective depth in mm: below 200 it is 2,000. No section has one above 1,999.
 pub fn size_factor(dm: u64) -> u64
     requires { dm ≤ 1999 }
@@ -153,9 +136,5 @@ pub fn size_factor(dm: u64) -> u64
     if dm < 200 {
         return 2000;
     }
-    let i = (dm - 200) as usize;
-    if i < 512 {
-        return near_factor(i) as u64;
-    }
-    far_factor(i) as u64
+    u64::from(entry(&FACTORS, (dm - 200) as usize))
 }

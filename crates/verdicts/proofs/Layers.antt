@@ -12,7 +12,7 @@ use Rattle.section.specs.declared.Layer.{Layer}
 use Rattle.section.specs.declared.Design.{Design}
 use Rattle.section.specs.Section.{all, depth_ok, area_ok}
 use Rattle.section.specs.Code.Usable.{Usable}
-use Rattle.section.specs.Code.Columns.{area_sum}
+use Rattle.section.specs.Code.Accepted.{area_sum}
 use Rattle.section.proofs.OneLayer.{layer-low, layer-high, steel-low, steel-high}
 use Rattle.verdicts.specs.Tension.{in_tension, tension_layers, total, area_of, first_moment, mean_depth, As, dm}
 use Rattle.verdicts.specs.Code.Ranges.{Counts}

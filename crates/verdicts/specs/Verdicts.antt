@@ -2,7 +2,6 @@
 -- layers and dm their mean depth. Assumes nothing.
 use Rattle.std.specs.Prelude.{ℕ, ◌*◌, Bool, cond, ◌&&◌, leb, ℤ, nat_abs, neg_ℤ}
 use Rattle.std.specs.Int.Signed.{le_z}
-use Rattle.arith.specs.Chain.{unless}
 use Rattle.links.specs.declared.Truss.{Truss}
 use Rattle.links.specs.Links.{truss_resistance, spacing_ok, ratio_ok}
 use Rattle.verdicts.specs.declared.Verdict.{Verdict}
@@ -19,7 +18,7 @@ judged t = cond t Pass Fail
 
 -- with no tension layer, where As is 0, the second, third and fourth verdicts are not reached
 abbrev pub reached : ℕ → Verdict → Verdict
-reached As verdict = unless (leb 1 As) NotReached verdict
+reached As verdict = cond (leb 1 As) verdict NotReached
 
 -- one, 6.1: pass when M is at most MRd with the top compressed, and at least −MRd with the bottom compressed. Either may be negative,
 -- and no M need lie between them.

@@ -5,5 +5,5 @@ use Rattle.check_list.proofs.read_input.Goals as goal
 pub loop-n-preserved : goal.loop-n-preserved
 loop-n-preserved g c = record {
   in_range = search arith;
-  read = read_more _ _ _ _ _ _ _ _ c.loop-n.invariant.in_range c.in-Ok.ensures.bound.0 c.loop-n.invariant.read c.in-Ok.ensures.bytes.0;
+  read = read_more _ _ _ _ _ _ _ _ c.loop-n.invariant.in_range c.in_ok-more.ensures.bound.0 c.loop-n.invariant.read c.in_ok-more.ensures.bytes.0;
 }

@@ -1,14 +1,17 @@
-use Rattle.std.proofs.Common.{◌≡◌, ◌-◌, arith, length, take, drop, length-drop}
-use Rattle.std.proofs.lemmas.List.{take_rest}
+use Rattle.std.proofs.Common.{◌≡◌, ◌+◌, ◌-◌, arith, length, drop, ap, ◌∙◌}
+use lib.Seq.{drop-drop}
 use Rattle.check_list.proofs.Streams.{wrote_more}
 use Rattle.check_list.proofs.write_whole.Goals as goal
 
-pub loop-done-preserved : goal.loop-done-preserved
-loop-done-preserved g c =
+pub loop-left-preserved : goal.loop-left-preserved
+loop-left-preserved g c =
     let bytes = c.args.bytes.now in
-    let done = c.loop-done.done in
-    let left : take (length bytes - done) (drop done bytes) ≡ drop done bytes = take_rest bytes done in
+    let done = length bytes - length c.loop-left.left.now in
+    let more = c.in_ok-more.more in
+    let now : length bytes - length c.split_at.result.1.now ≡ done + more = omega (arith, c.split_at.ensures.back_len, c.loop-left.invariant.in_range) in
+    let rest = c.loop-left.invariant.rest in
     record {
-      in_range = omega (arith, rw left at c.in_ok-more.ensures.bound, length-drop done bytes);
-      wrote = wrote_more _ _ _ _ _ _ c.loop-done.invariant.wrote (rw left at c.in_ok-more.ensures.bytes);
+      in_range = omega (arith, c.split_at.ensures.back_len, c.loop-left.invariant.in_range);
+      rest = rw now (c.split_at.ensures.back ∙ ap (drop more) rest ∙ drop-drop more done bytes);
+      wrote = rw now (wrote_more _ _ _ done more bytes c.loop-left.invariant.wrote (rw rest at c.in_ok-more.ensures.bytes));
     }

@@ -1,85 +1,60 @@
--- The equation by the arms of the code, and the accuracy from it.
+-- The equation by the exits of the code, and the other clauses from it.
 use Prim.Native.Nat.{◌≤◌}
 use mathlib.Core.Path.{◌≡◌, sym, ap, ◌∙◌}
-use borrow.Author.Rules.{rules}
-use mir.Syntax.{w64}
-use mir.Val.{SFits}
+use lib.IntN.{ℤ}
 use mir.Facts.{to_z-of_z}
-use Rattle.arith.proofs.Range.{symmetric}
+use Rattle.std.specs.Prelude.{Result}
+use Rattle.std.specs.Result.{result_err}
+use Rattle.std.proofs.lemmas.Result.{err_from_is_err_and}
+use Rattle.refusals.specs.declared.Refusal.{Refusal}
+use Rattle.refusals.specs.Chain.{first_failing}
+use Rattle.refusals.proofs.Exits.{passed, refused}
+use Rattle.section.specs.declared.Section.{Section}
+use Rattle.section.specs.Section.{counted}
 use Rattle.section.specs.Load.{force_ok}
-use Rattle.arith.specs.Chain.{first_failing}
+use Rattle.section.specs.Code.Accepted.{AcceptedOf}
+use Rattle.section.proofs.Usable.{accepted_of}
 use Rattle.equilibrium.specs.declared.Depth.{Depth}
 use Rattle.equilibrium.specs.Refusals.{find_depth_tests}
-use Rattle.equilibrium.specs.Depth.{depth_for, find_depth, refusal_number, trials_found}
+use Rattle.equilibrium.specs.Depth.{depth_for, find_depth, trials_found}
 use Rattle.equilibrium.specs.Accuracy.{AccurateDepth}
 use Rattle.equilibrium.proofs.Found.{find_refused, find_out, find-in, find_clauses}
-use lib.ListN.{length}
-use Rattle.section.specs.Section.{counted}
-use Rattle.section.specs.Refusals.{accepted}
-use Rattle.section.specs.Code.Columns.{Apart}
-use Rattle.section.proofs.InColumns.{in_columns_lem, area_any}
-use Rattle.section.proofs.Opened.{Opened, opened}
 use Rattle.equilibrium.proofs.find_depth.Goals as goal
-use Rattle.equilibrium.proofs.find_depth.Goals.{Start, After-accept, In-Ready, After-force_ok}
-
--- the section taken apart is asked as it is
-module _ (c : After-accept) where
-  taken : Apart c.args.s c.take_apart.new.depths c.take_apart.new.areas
-  taken =
-      let sixteen : length c.args.s.layers ≡ 16 = search rules in
-      let e = c.take_apart.ensures in
-      record { places = sixteen; depths_are = e.0; areas_are = e.1 }
-
-  answer_is : c.accept.result ≡ accepted (counted c.args.s)
-  answer_is =
-      let width : SFits w64 c.args.s.width = search rules in
-      let height : SFits w64 c.args.s.height = search rules in
-      c.accept.ensures.value ∙ ap accepted (in_columns_lem taken (to_z-of_z width) (to_z-of_z height))
-
--- an accepted section, in columns
-module _ (c : In-Ready) where
-  abbrev asked : After-accept
-  asked = (goal.at.In-Ready c).After-accept
-
-  section : Opened c.args.s c.take_apart.new.depths c.take_apart.new.areas c.in-Ready.x
-  section = opened (taken asked) (answer_is asked) c.in-Ready.is
-
-load_is : (c : After-force_ok) → c.force_ok.result ≡ force_ok c.args.n
-load_is c = c.force_ok.ensures ∙ ap force_ok (to_z-of_z c.ranges.n)
+use Rattle.equilibrium.proofs.find_depth.Goals.{After-force_ok}
 
 -- the clauses of an answer that is the definition's
-clauses : (c : Start) {r : Depth} → r ≡ find_depth c.args.s c.args.n → record {
-  value : r ≡ find_depth c.args.s c.args.n;
-  refusal : refusal_number r ≡ first_failing (find_depth_tests (counted c.args.s) c.args.n);
-  accurate : AccurateDepth c.args.s c.args.n r;
+clauses : (s : Section) (n : ℤ) {r : Result Depth Refusal} → r ≡ find_depth s n → record {
+  value : r ≡ find_depth s n;
+  refusal : result_err r ≡ first_failing (find_depth_tests (counted s) n);
+  accurate : AccurateDepth s n r;
   never_exceeds_15 : trials_found r ≤ 15;
 }
-clauses c e =
-    let all = find_clauses c.args.s c.args.n e in
+clauses s n e =
+    let all = find_clauses s n e in
     record { value = all.0; refusal = all.1.0; accurate = all.1.1.0; never_exceeds_15 = all.1.1.1 }
 
-pub depth_for-requires : goal.depth_for-requires
-depth_for-requires c =
-    let at = goal.at.depth_for-requires c in
-    record {
-      usable = rw (section at.In-Ready).layers_are (section at.In-Ready).usable;
-      area = c.steel_area-steel.ensures ∙ sym (area_any _ _ c.args.s.count);
-      load = rw (to_z-of_z c.ranges.n) (symmetric 500000000 c.args.n (sym (load_is at.After-force_ok) ∙ c.if-force_ok.true));
-    }
+-- of an accepted section
+module _ (c : After-force_ok) where
+  face : AcceptedOf c.args.s c.in_ok-face.face
+  face = accepted_of c.args.s c.accept.ensures.value c.in_ok-face.ensures.layers c.in_ok-face.was
 
-pub returns-in-Refused : goal.returns-in-Refused
-returns-in-Refused c =
-    let at = goal.at.returns-in-Refused c in
-    clauses at.Start (sym (find_refused c.args.s c.args.n (sym (answer_is at.After-accept) ∙ c.in-Refused.is)))
+  load_is : c.force_ok.result ≡ force_ok c.args.n
+  load_is = c.force_ok.ensures ∙ ap force_ok (to_z-of_z c.ranges.n)
 
-pub returns-then-force_ok : goal.returns-then-force_ok
-returns-then-force_ok c =
-    let at = goal.at.returns-then-force_ok c in
-    let x = section at.In-Ready in
-    let found = c.depth_for.ensures.value ∙ (λ i. depth_for c.in-Ready.x (x.layers_are i) (to_z-of_z c.ranges.n i)) in
-    clauses at.Start (found ∙ sym (find-in c.args.s c.args.n x.ready (sym (load_is at.After-force_ok) ∙ c.if-force_ok.true)))
+pub returns-in_err-face : goal.returns-in_err-face
+returns-in_err-face c =
+    let p = err_from_is_err_and c.from_residual.result c.from_residual.ensures.1 in
+    clauses c.args.s c.args.n (rw (p.1, p.2) (sym (find_refused c.args.s c.args.n (sym c.in_err-face.ensures.value))))
 
-pub returns-else-force_ok : goal.returns-else-force_ok
-returns-else-force_ok c =
-    let at = goal.at.returns-else-force_ok c in
-    clauses at.Start (sym (find_out c.args.s c.args.n (section at.In-Ready).ready (sym (load_is at.After-force_ok) ∙ c.if-force_ok.false)))
+pub returns-in_err-unless : goal.returns-in_err-unless
+returns-in_err-unless c =
+    let a = (goal.at.returns-in_err-unless c).After-force_ok in
+    let out = refused _ c.unless.ensures _ c.from_residual-in_err-unless.ensures.1 c.in_err-unless.was in
+    clauses c.args.s c.args.n (out.1 ∙ sym (find_out c.args.s c.args.n (face a).ready (sym (load_is a) ∙ out.0)))
+
+pub returns : goal.returns
+returns c =
+    let a = (goal.at.returns c).After-force_ok in
+    let within = passed _ c.unless.ensures c.in_ok-unless.was in
+    let found = c.depth.ensures.value ∙ (λ i. depth_for c.in_ok-face.face.design ((face a).layers_are i) (to_z-of_z c.ranges.n i)) in
+    clauses c.args.s c.args.n (found ∙ sym (find-in c.args.s c.args.n (face a).ready (sym (load_is a) ∙ within)))

@@ -1,14 +1,12 @@
 -- At a whole depth u stress, force and moment are whole numbers over a natural: what the code computes. No sentence of document 01 stands
 -- here. Assumes nothing.
-use Rattle.std.specs.Prelude.{ℕ, ◌+◌, ◌-◌, ◌*◌, ◌≤◌, min, Bool, cond, List, [], ◌∷◌, ◌≡◌, leb}
+use Rattle.std.specs.Prelude.{ℕ, ◌+◌, ◌-◌, ◌*◌, ◌≤◌, min, Bool, cond, List, [], ◌∷◌, leb}
 use Rattle.std.specs.Prelude.{ℤ, pos, ◌+ℤ◌, ◌-ℤ◌, ◌*ℤ◌}
 use Rattle.std.specs.Int.Signed.{le_z}
 use Rattle.arith.specs.Fraction.{floor}
-use Rattle.arith.specs.Integer.{Within}
 use Rattle.section.specs.declared.Layer.{Layer}
 use Rattle.section.specs.declared.Design.{Design}
-use Rattle.section.specs.Code.Usable.{Bounded, Usable}
-use Rattle.section.specs.Code.Columns.{area_sum}
+use Rattle.section.specs.Code.Accepted.{area_sum}
 use Rattle.beyond.specs.Force as beyond
 use Rattle.equilibrium.specs.Force.{at, layer_moment, steel_resistance}
 
@@ -72,21 +70,3 @@ pub record BlockBounds (f b h k : ℕ) : Type 0 where
   pub b-high : b ≤ 2000
   pub h-high : h ≤ 2000
   pub k-high : k ≤ 800 * h
-
-pub record LiftBounds (x : Design) (u d : ℕ) : Type 0 where
-  pub bounded : Bounded x
-  pub u-high : u ≤ 20000
-  pub d_high : d ≤ 2000
-
-pub record ExcessBounds (x : Design) (steel : ℕ) (N : ℤ) (lift u : ℕ) : Type 0 where
-  pub bounded : Bounded x
-  pub steel-high : steel ≤ 320000
-  pub load : Within N 500000000
-  pub lift-high : lift ≤ 768000000000000
-  pub u-high : u ≤ 20000
-
--- a section whose layers have the area `steel`, under N
-pub record Trial (x : Design) (n : ℕ) (ls : List Layer) (steel : ℕ) (N : ℤ) : Type 0 where
-  pub usable : Usable x n ls
-  pub area : steel ≡ area_sum ls
-  pub load : Within N 500000000

@@ -1,7 +1,6 @@
 -- Where the resistances of the links and of the strut cross: what the code finds on its way to the cotangent. Assumes nothing.
 use Rattle.std.specs.Prelude.{ℕ, ◌≤◌, ◌<◌, ◌≡◌}
-use Rattle.links.specs.declared.Truss.{Truss}
-use Rattle.links.specs.Links.{link_resistance, strut_resistance}
+use Rattle.links.specs.Links.{Truss, link_resistance, strut_resistance}
 
 -- up to m the links resist no more than the strut, and beyond m the strut no more than the links; 9 where that holds of every tenth from 10
 -- to 25

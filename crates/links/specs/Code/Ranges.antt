@@ -1,6 +1,6 @@
 -- The ranges in which the code's products fit: what an accepted section, its materials and its links give. Assumes nothing.
 use Rattle.std.specs.Prelude.{◌≤◌}
-use Rattle.links.specs.declared.Truss.{Truss}
+use Rattle.links.specs.Links.{Truss}
 
 pub record TrussBounds (x : Truss) : Type 0 where
   pub b-high : x.b ≤ 2000

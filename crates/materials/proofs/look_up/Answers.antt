@@ -5,19 +5,19 @@ use lib.IntN.{pos, nat_abs}
 use mir.Syntax.{w64}
 use mir.Val.{SFits, to_z, of_z}
 use mir.Facts.{to_z-of_z}
+use borrow.Author.Rules.{rules}
+use Rattle.std.specs.Prelude.{Some, Ok}
 use Rattle.arith.specs.Integer.{in_range}
 use Rattle.arith.proofs.Range.{natural}
-use Rattle.arith.proofs.Test.{failed, passed}
+use Rattle.refusals.proofs.Exits.{passed, refused, is_there, is_missing, contained}
 use Rattle.materials.specs.Table.{row_of}
-use Rattle.materials.specs.declared.Row.TheVariants.{Found}
 use Rattle.materials.specs.Situation.{situation_of}
 use Rattle.materials.specs.Answer.{in_situation}
 use Rattle.materials.specs.Code.Factors.{scaled}
 use Rattle.materials.proofs.Promise.{clauses}
 use Rattle.materials.proofs.Table.{class-row}
-use borrow.Author.Rules.{rules}
 use Rattle.materials.proofs.look_up.Goals as goal
-use Rattle.materials.proofs.look_up.Goals.{After-row_of, After-in_range, After-in_range-in-Found, After-in_range-in-Found-2, After-magnitude-in-Found-3}
+use Rattle.materials.proofs.look_up.Goals.{After-row_of, After-contains, After-contains-2, After-contains-3, After-unsigned_abs-4}
 
 module _ (c : After-row_of) where
   -- the four numbers as they are read
@@ -38,109 +38,110 @@ module _ (c : After-row_of) where
   row_is = c.row_of.ensures ∙ ap row_of fck_read
 
 -- a class in the table
-module _ (c : After-in_range) where
-  abbrev start : After-row_of
-  start = (goal.at.After-in_range c).After-row_of
+module _ (c : After-contains) where
+  class_is : row_of c.args.grade.fck ≡ Some c.in_ok-class.class
+  class_is = sym (row_is (goal.at.After-contains c).After-row_of) ∙ is_there _ c.ok_or.ensures.value c.in_ok-class.was
 
-  class_is : row_of c.args.grade.fck ≡ Found c.in-Found.class
-  class_is = sym (row_is start) ∙ c.in-Found.is
-
-  steel_test : c.in_range.result ≡ in_range (pos 400) (pos 600) c.args.grade.fyk
-  steel_test = c.in_range.ensures ∙ ap (in_range (pos 400) (pos 600)) (fyk_read start)
+  steel_test : c.contains.result ≡ in_range (pos 400) (pos 600) c.args.grade.fyk
+  steel_test = contained _ c.new.ensures.start c.new.ensures.end c.new.ensures.exhausted c.contains.ensures.value
 
 -- and a steel in its range
-module _ (c : After-in_range-in-Found) where
-  abbrev steel_tested : After-in_range
-  steel_tested = (goal.at.After-in_range-in-Found c).After-in_range
+module _ (c : After-contains-2) where
+  abbrev classed : After-contains
+  classed = (goal.at.After-contains-2 c).After-contains
 
   steel_is : in_range (pos 400) (pos 600) c.args.grade.fyk ≡ true
-  steel_is = passed (steel_test steel_tested) c.if-not-in_range.false
+  steel_is = sym (steel_test classed) ∙ passed _ c.unless.ensures c.in_ok-unless.was
 
-  situation_test : c.in_range-in-Found.result ≡ in_range (pos 1) (pos 2) c.args.grade.situation
-  situation_test = c.in_range-in-Found.ensures ∙ ap (in_range (pos 1) (pos 2)) (situation_read (start steel_tested))
+  situation_test : c.contains-2.result ≡ in_range (pos 1) (pos 2) c.args.grade.situation
+  situation_test = contained _ c.new-2.ensures.start c.new-2.ensures.end c.new-2.ensures.exhausted c.contains-2.ensures.value
 
 -- and a situation in its own
-module _ (c : After-in_range-in-Found-2) where
-  abbrev situation_tested : After-in_range-in-Found
-  situation_tested = (goal.at.After-in_range-in-Found-2 c).After-in_range-in-Found
-
-  abbrev classed : After-in_range
-  classed = steel_tested situation_tested
+module _ (c : After-contains-3) where
+  abbrev steel_tested : After-contains-2
+  steel_tested = (goal.at.After-contains-3 c).After-contains-2
 
   situation_is : in_range (pos 1) (pos 2) c.args.grade.situation ≡ true
-  situation_is = passed (situation_test situation_tested) c.if-not-in_range-2.false
+  situation_is = sym (situation_test steel_tested) ∙ passed _ c.unless-2.ensures c.in_ok-unless-2.was
 
-  alphacc_test : c.in_range-in-Found-2.result ≡ in_range (pos 80) (pos 100) c.args.grade.alphacc
-  alphacc_test = c.in_range-in-Found-2.ensures ∙ ap (in_range (pos 80) (pos 100)) (alphacc_read (start classed))
+  alphacc_test : c.contains-3.result ≡ in_range (pos 80) (pos 100) c.args.grade.alphacc
+  alphacc_test = contained _ c.new-3.ensures.start c.new-3.ensures.end c.new-3.ensures.exhausted c.contains-3.ensures.value
 
 -- and an αcc in its own
-module _ (c : After-magnitude-in-Found-3) where
-  abbrev tested : After-in_range-in-Found-2
-  tested = (goal.at.After-magnitude-in-Found-3 c).After-in_range-in-Found-2
+module _ (c : After-unsigned_abs-4) where
+  abbrev tested : After-contains-3
+  tested = (goal.at.After-unsigned_abs-4 c).After-contains-3
 
   abbrev begun : After-row_of
-  begun = start (classed tested)
+  begun = (goal.at.After-unsigned_abs-4 c).After-row_of
 
-  alphacc_in : in_range (pos 80) (pos 100) c.args.grade.alphacc ≡ true
-  alphacc_in = passed (alphacc_test tested) c.if-not-in_range-3.false
+  alphacc_is : in_range (pos 80) (pos 100) c.args.grade.alphacc ≡ true
+  alphacc_is = sym (alphacc_test tested) ∙ passed _ c.unless-3.ensures c.in_ok-unless-3.was
 
-  fck_is : c.magnitude-in-Found.result ≡ nat_abs c.args.grade.fck
-  fck_is = c.magnitude-in-Found.ensures ∙ ap nat_abs (fck_read begun)
+  fck_abs : c.unsigned_abs-2.result ≡ nat_abs c.args.grade.fck
+  fck_abs = c.unsigned_abs-2.ensures.value ∙ ap nat_abs (fck_read begun)
 
-  fyk_is : c.magnitude-in-Found-2.result ≡ nat_abs c.args.grade.fyk
-  fyk_is = c.magnitude-in-Found-2.ensures ∙ ap nat_abs (fyk_read begun)
+  fyk_abs : c.unsigned_abs-3.result ≡ nat_abs c.args.grade.fyk
+  fyk_abs = c.unsigned_abs-3.ensures.value ∙ ap nat_abs (fyk_read begun)
 
-  alphacc_is : c.magnitude-in-Found-3.result ≡ nat_abs c.args.grade.alphacc
-  alphacc_is = c.magnitude-in-Found-3.ensures ∙ ap nat_abs (alphacc_read begun)
+  alphacc_abs : c.unsigned_abs-4.result ≡ nat_abs c.args.grade.alphacc
+  alphacc_abs = c.unsigned_abs-4.ensures.value ∙ ap nat_abs (alphacc_read begun)
 
-  factors_are : scaled c.partial_factors-j.result ≡ in_situation c.args.grade
-  factors_are = c.partial_factors-j.ensures.row ∙ ap situation_of (c.magnitude.ensures ∙ ap nat_abs (situation_read begun))
+  factors_are : scaled c.of-factors.result ≡ in_situation c.args.grade
+  factors_are = c.of-factors.ensures ∙ ap situation_of (c.unsigned_abs.ensures.value ∙ ap nat_abs (situation_read begun))
 
-pub design_values-requires-clause-class_found : goal.design_values-requires-clause-class_found
-design_values-requires-clause-class_found c =
-    let t = tested c in (
-      rw (fck_is c) (class-row c.args.grade.fck (class_is (classed t))),
+pub design_values-requires : goal.design_values-requires
+design_values-requires c =
+    let s = steel_tested (tested c) in (
+      rw (fck_abs c) (class-row c.args.grade.fck (class_is (classed s))),
       (
-        rw (fyk_is c) (natural 400 600 c.args.grade.fyk (steel_is (situation_tested t))).high,
-        rw (alphacc_is c) (natural 80 100 c.args.grade.alphacc (alphacc_in c)).high,
+        rw (fyk_abs c) (natural 400 600 c.args.grade.fyk (steel_is s)).high,
+        rw (alphacc_abs c) (natural 80 100 c.args.grade.alphacc (alphacc_is c)).high,
       ),
     )
 
-pub returns-then-not-in_range-clause-value : goal.returns-then-not-in_range-clause-value
-returns-then-not-in_range-clause-value c =
-    let a = (goal.at.returns-then-not-in_range-clause-value c).After-in_range in
-    (clauses c.args.grade (rw (class_is a, failed (steel_test a) c.if-not-in_range.true))).0
+pub returns-in_err-class-clause-value : goal.returns-in_err-class-clause-value
+returns-in_err-class-clause-value c =
+    let x = is_missing _ c.ok_or.ensures.value _ c.from_residual.ensures.1 c.in_err-class.was in
+    let row = sym (row_is (goal.at.returns-in_err-class-clause-value c).After-row_of) ∙ x.0 in
+    (clauses c.args.grade (rw (x.1, row))).0
 
-pub returns-then-not-in_range-2-clause-value : goal.returns-then-not-in_range-2-clause-value
-returns-then-not-in_range-2-clause-value c =
-    let a = (goal.at.returns-then-not-in_range-2-clause-value c).After-in_range-in-Found in
-    (clauses c.args.grade (rw (class_is (steel_tested a), steel_is a, failed (situation_test a) c.if-not-in_range-2.true))).0
+pub returns-in_err-unless-clause-value : goal.returns-in_err-unless-clause-value
+returns-in_err-unless-clause-value c =
+    let x = refused _ c.unless.ensures _ c.from_residual-in_err-unless.ensures.1 c.in_err-unless.was in
+    let a = (goal.at.returns-in_err-unless-clause-value c).After-contains in
+    (clauses c.args.grade (rw (x.1, class_is a, sym (steel_test a) ∙ x.0))).0
 
-pub returns-then-not-in_range-3-clause-value : goal.returns-then-not-in_range-3-clause-value
-returns-then-not-in_range-3-clause-value c =
-    let a = (goal.at.returns-then-not-in_range-3-clause-value c).After-in_range-in-Found-2 in
-    (clauses c.args.grade
-    (rw (class_is (classed a), steel_is (situation_tested a), situation_is a, failed (alphacc_test a) c.if-not-in_range-3.true))).0
+pub returns-in_err-unless-2 : goal.returns-in_err-unless-2
+returns-in_err-unless-2 c =
+    let x = refused _ c.unless-2.ensures _ c.from_residual-in_err-unless-2.ensures.1 c.in_err-unless-2.was in
+    let a = (goal.at.returns-in_err-unless-2 c).After-contains-2 in
+    let all = clauses c.args.grade {r = c.from_residual-in_err-unless-2.result} (rw (x.1, class_is (classed a), steel_is a, sym (situation_test a) ∙ x.0)) in
+    record { value = all.0; refusal = all.1.0; exact = all.1.1.0; promised = all.1.1.1 }
 
-pub returns-in-Missing-clause-value : goal.returns-in-Missing-clause-value
-returns-in-Missing-clause-value c =
-    let a = (goal.at.returns-in-Missing-clause-value c).After-row_of in
-    (clauses c.args.grade (rw (sym (row_is a) ∙ c.in-Missing.is))).0
+pub returns-in_err-unless-3 : goal.returns-in_err-unless-3
+returns-in_err-unless-3 c =
+    let x = refused _ c.unless-3.ensures _ c.from_residual-in_err-unless-3.ensures.1 c.in_err-unless-3.was in
+    let a = (goal.at.returns-in_err-unless-3 c).After-contains-3 in
+    let s = steel_tested a in
+    let all = clauses c.args.grade {r = c.from_residual-in_err-unless-3.result} (rw (x.1, class_is (classed s), steel_is s, situation_is a, sym (alphacc_test a) ∙ x.0)) in
+    record { value = all.0; refusal = all.1.0; exact = all.1.1.0; promised = all.1.1.1 }
 
-pub returns-else-not-in_range-3 : goal.returns-else-not-in_range-3
-returns-else-not-in_range-3 c =
-    let a = (goal.at.returns-else-not-in_range-3 c).After-magnitude-in-Found-3 in
+pub returns : goal.returns
+returns c =
+    let a = (goal.at.returns c).After-unsigned_abs-4 in
     let t = tested a in
-    let all = clauses c.args.grade
+    let s = steel_tested t in
+    let all = clauses c.args.grade {r = Ok c.design_values.result}
     (simp (
-      class_is (classed t),
-      steel_is (situation_tested t),
+      class_is (classed s),
+      steel_is s,
       situation_is t,
-      alphacc_in a,
-      c.design_values.ensures,
-      fck_is a,
-      fyk_is a,
       alphacc_is a,
+      c.design_values.ensures,
+      fck_abs a,
+      fyk_abs a,
+      alphacc_abs a,
       factors_are a,
     )) in
     record { value = all.0; refusal = all.1.0; exact = all.1.1.0; promised = all.1.1.1 }

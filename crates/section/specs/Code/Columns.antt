@@ -1,6 +1,6 @@
--- The layers as the code holds them: two columns of numbers, the depths and the areas, of which the first n places count. No sentence of
--- document 01 stands here. Assumes nothing.
-use Rattle.std.specs.Prelude.{ℕ, zero, suc, ◌+◌, ◌-◌, List, [], ◌∷◌, map, ◌≡◌, ℤ, length, get_or, take}
+-- The layers in two columns of numbers, the depths and the areas, of which the first n places count: how the code held them before it was given
+-- slices. The laws that docs/PORT.md names speak of it. Assumes nothing.
+use Rattle.std.specs.Prelude.{ℕ, zero, suc, ◌-◌, List, [], ◌∷◌, map, ◌≡◌, ℤ, length, get_or, take}
 use Rattle.materials.specs.declared.Grade.{Grade}
 use Rattle.section.specs.declared.Layer.{Layer}
 use Rattle.section.specs.declared.Section.{Section}
@@ -38,8 +38,3 @@ pub record Apart (s : Section) (depths areas : List ℕ) : Type 0 where
 -- a column of depths, measured from the other face of a section with the height h
 abbrev pub turned_depths : ℕ → List ℕ → List ℕ
 turned_depths h depths = map (λ d. h - d) depths
-
--- the area of all layers
-unfoldable pub area_sum : List Layer → ℕ
-area_sum [] = 0
-area_sum (l ∷ ls) = l.area + area_sum ls

@@ -1,14 +1,13 @@
 -- What an accepted section gives the code that computes with it. Assumes nothing.
-use Rattle.std.specs.Prelude.{ℕ, ◌≤◌, ◌<◌, true, false, List, ◌≡◌, pos, length}
-use Rattle.arith.specs.Chain.{OneOf}
+use Rattle.std.specs.Prelude.{ℕ, ◌≤◌, ◌<◌, true, false, List, ◌≡◌, pos, length, Result, Ok, Err}
+use Rattle.refusals.specs.Chain.{OneOf}
+use Rattle.refusals.specs.declared.Refusal.{Refusal}
 use Rattle.arith.specs.Integer.{Within}
 use Rattle.materials.specs.Answer as materials
 use Rattle.section.specs.declared.Layer.{Layer}
 use Rattle.section.specs.declared.Links.{Links}
 use Rattle.section.specs.declared.Load.{Load}
 use Rattle.section.specs.declared.Design.{Design}
-use Rattle.section.specs.declared.Accepted.{Accepted}
-use Rattle.section.specs.declared.Accepted.TheVariants.{Ready, Refused}
 use Rattle.section.specs.Section.{Counted, all, depth_ok, area_ok, absent}
 use Rattle.section.specs.Refusals.{section_refusals}
 
@@ -47,9 +46,9 @@ pub record SectionPromise (c : Counted) (x : Design) : Type 0 where
   pub asked : Asked c x
   pub usable : Usable x c.count c.layers
 
-abbrev pub PromisedSection : Counted → Accepted → Type 0
-PromisedSection c (Ready x) = SectionPromise c x
-PromisedSection c (Refused k) = OneOf section_refusals k
+abbrev pub PromisedSection : Counted → Result Design Refusal → Type 0
+PromisedSection c (Ok x) = SectionPromise c x
+PromisedSection c (Err r) = OneOf section_refusals r
 
 -- a load that passed the load tests
 pub record LoadOk (load : Load) : Type 0 where

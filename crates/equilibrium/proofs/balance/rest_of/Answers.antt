@@ -7,11 +7,11 @@ use Rattle.equilibrium.proofs.balance.rest_of.Goals as goal
 use Rattle.equilibrium.proofs.balance.rest_of.Goals.{Start}
 
 module _ (c : Start) where
-  steel-in : 800 * c.args.x.m.s * c.args.steel ≤ 15360000000000
+  steel-in : 800 * c.args.x.now.m.s * c.args.steel ≤ 15360000000000
   steel-in = steel-rest c.requires.0 c.requires.1.0
 
   abbrev steel : M
-  steel = nat (800 * c.args.x.m.s * c.args.steel) steel-in tt
+  steel = nat (800 * c.args.x.now.m.s * c.args.steel) steel-in tt
 
   abbrev load : M
   load = num (pos 80000) ⊠ var c.ranges.n c.requires.1.1

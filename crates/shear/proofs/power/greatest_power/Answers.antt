@@ -3,16 +3,17 @@ use Prim.Native.Nat.{ℕ, ◌+◌, ◌-◌, ◌/◌}
 use mathlib.Core.Bool.{Bool}
 use mathlib.Core.Path.{sym, ◌∙◌}
 use native.Mathlib.Omega.{arith}
-use Rattle.arith.proofs.Greatest.{start, kept, dropped, wider, found}
+use Rattle.arith.proofs.Greatest.{start, kept, dropped, wider}
 use Rattle.shear.specs.Code.Power.{power_at_most}
 use Rattle.shear.proofs.Powers.{never_back, fits_below}
+use Rattle.shear.proofs.power.greatest_power.Given as given
 use Rattle.shear.proofs.power.greatest_power.Goals as goal
 use Rattle.shear.proofs.power.greatest_power.Goals.{At-loop-span}
 
 -- the trial, and what is left of the span after it
-module _ (at : At-loop-span) where
+module _ (g : given.Over) (at : At-loop-span g) where
   abbrev test : ℕ → Bool
-  test = power_at_most at.args.e at.args.a at.args.y
+  test = power_at_most g.row.E at.args.a at.args.y
 
   abbrev rest : ℕ
   rest = at.loop-span.span / 2
@@ -21,42 +22,25 @@ module _ (at : At-loop-span) where
   trial = at.loop-span.k + (at.loop-span.span - rest)
 
 pub loop-span-init : goal.loop-span-init
-loop-span-init c =
+loop-span-init g c =
     let s = c.args in
-    let p = power_at_most s.e s.a s.y in
+    let p = power_at_most g.row.E s.a s.y in
     wider p (0 + s.most) (omega arith) (omega arith) (start p s.most 0 (omega arith))
 
-pub overflow_sub-trial : goal.overflow_sub-trial
-overflow_sub-trial c = omega arith
-
-pub overflow_add-trial : goal.overflow_add-trial
-overflow_add-trial c = omega (arith, c.loop-span.invariant.most)
-
 pub power_at_most-requires : goal.power_at_most-requires
-power_at_most-requires c = fits_below (omega (arith, c.loop-span.invariant.most)) c.requires
-
-pub loop-span-smaller-then-power_at_most : goal.loop-span-smaller-then-power_at_most
-loop-span-smaller-then-power_at_most c = omega arith
+power_at_most-requires g c = fits_below (omega (arith, c.loop-span.invariant.most)) c.requires
 
 pub loop-span-preserved-then-power_at_most : goal.loop-span-preserved-then-power_at_most
-loop-span-preserved-then-power_at_most c =
+loop-span-preserved-then-power_at_most g c =
     let at = c.before.before.before in
     let inv = at.loop-span.invariant in
-    wider (test at) (trial at + rest at) (omega arith) (omega (arith, inv.most))
-    (kept (test at) (trial at) (omega arith) (sym c.power_at_most.ensures ∙ c.if-power_at_most.true) inv)
-
-pub loop-span-smaller : goal.loop-span-smaller
-loop-span-smaller c = omega arith
+    wider (test g at) (trial g at + rest g at) (omega arith) (omega (arith, inv.most))
+    (kept (test g at) (trial g at) (omega arith) (sym c.power_at_most.ensures ∙ c.if-power_at_most.true) inv)
 
 pub loop-span-preserved : goal.loop-span-preserved
-loop-span-preserved c =
+loop-span-preserved g c =
     let at = c.before.before.before in
     let s = at.args in
     let inv = at.loop-span.invariant in
-    wider (test at) (at.loop-span.k + rest at) (omega arith) (omega (arith, inv.most))
-    (dropped (test at) (never_back s.e s.a s.y) (trial at) (omega arith) (omega arith) (sym c.power_at_most.ensures ∙ c.if-power_at_most.false) inv)
-
-pub returns : goal.returns
-returns c =
-    let at = c.before in
-    found (test at) (omega arith) at.loop-span.invariant
+    wider (test g at) (at.loop-span.k + rest g at) (omega arith) (omega (arith, inv.most))
+    (dropped (test g at) (never_back g.row.E s.a s.y) (trial g at) (omega arith) (omega arith) (sym c.power_at_most.ensures ∙ c.if-power_at_most.false) inv)

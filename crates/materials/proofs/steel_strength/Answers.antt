@@ -1,6 +1,0 @@
--- The quotient is the formula rounded down.
-use Rattle.materials.proofs.Strength.{s_is}
-use Rattle.materials.proofs.steel_strength.Goals as goal
-
-pub returns : goal.returns
-returns c = s_is c.args.j c.args.fyk
