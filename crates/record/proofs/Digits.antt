@@ -108,7 +108,17 @@ module _ (xs : List ℕ) (at : ℕ) where
   pub from_eight : from_be_bytes w64 (take 8 (drop at xs)) ≡ number_at xs at 8
   unfolding number_at
   from_eight =
-      omega (arith, byte 8 0 (lit< tt), byte 8 1 (lit< tt), byte 8 2 (lit< tt), byte 8 3 (lit< tt), byte 8 4 (lit< tt), byte 8 5 (lit< tt), byte 8 6 (lit< tt), byte 8 7 (lit< tt))
+      omega (
+        arith,
+        byte 8 0 (lit< tt),
+        byte 8 1 (lit< tt),
+        byte 8 2 (lit< tt),
+        byte 8 3 (lit< tt),
+        byte 8 4 (lit< tt),
+        byte 8 5 (lit< tt),
+        byte 8 6 (lit< tt),
+        byte 8 7 (lit< tt),
+      )
 
 -- the lowest byte comes last, and the others are those of the number that is left
 byte_more : (i v : ℕ) → byte_at (suc i) v ≡ byte_at i (v / 256)

@@ -12,6 +12,7 @@ use Rattle.listing.proofs.list_too_long.Goals as goal
 
 pub put_text-requires : goal.put_text-requires
 put_text-requires c =
-    let text = ap length (c.as_bytes.ensures.value ∙ c.deref.ensures.0 ∙ c.line_of-line.ensures ∙ ap (line 0) (c.refused_listed.ensures ∙ ap refused_listed c.number.ensures)) in
+    let listed = c.refused_listed.ensures ∙ ap refused_listed c.number.ensures in
+    let text = ap length (c.as_bytes.ensures.value ∙ c.deref.ensures.0 ∙ c.line_of-line.ensures ∙ ap (line 0) listed) in
     let room = leb-true (room_for 0) (length c.args.out.now) (sym c.long_enough.ensures ∙ c.if-not-long_enough.false) in
     omega (arith, refused_line 0 26 (lit< tt) (lit< tt))

@@ -56,7 +56,8 @@ returns c =
       | else-last-lt25 w ↦ absurd (omega (arith, w.if-last-lt25.false))
     ] in
     let best : BestCotangent x c.first_with.result =
-    peak_at (links-rise x c.crossing-last.ensures.bounds) (strut_falls x c.crossing-last.ensures.bounds) low m.high m.below m.above f.low f.high f.same f.worse no-better in
+    peak_at (links-rise x c.crossing-last.ensures.bounds) (strut_falls x c.crossing-last.ensures.bounds) low m.high m.below m.above
+    f.low f.high f.same f.worse no-better in
     record {
       answer =
           answered x best (c.link_resistance-links.ensures ∙ sym f.same ∙ sym (min-eq_left (m.below c.first_with.result f.low f.high)));

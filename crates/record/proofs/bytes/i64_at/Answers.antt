@@ -9,4 +9,5 @@ use Rattle.record.proofs.bytes.i64_at.Goals as goal
 pub returns : goal.returns
 returns c =
     let is = ap (from_be_bytes w64) c.bytes_at.ensures ∙ from_eight c.args.s.now c.args.at in
-    result c.from_be_bytes.type_inv (c.from_be_bytes.ensures ∙ ap (cast_signed w64) is ∙ cast-signed (number_at c.args.s.now c.args.at 8) (number_below c.args.s.now c.args.at c.type_inv.s 8))
+    result c.from_be_bytes.type_inv
+    (c.from_be_bytes.ensures ∙ ap (cast_signed w64) is ∙ cast-signed (number_at c.args.s.now c.args.at 8) (number_below c.args.s.now c.args.at c.type_inv.s 8))

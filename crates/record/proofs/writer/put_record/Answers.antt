@@ -27,7 +27,8 @@ use Rattle.record.proofs.writer.put_record.Goals.{After-test_record, After-unles
 
 -- the section, the load and the links are refused, or pass
 module _ (c : After-test_record) where
-  answered : {r : Refusal} → c.test_record.result ≡ Err r → Answered (counted c.args.s.now) (links_of c.args.s.now) c.args.l.now c.args.buffer.now (Err r) c.args.buffer.now
+  answered : {r : Refusal} → c.test_record.result ≡ Err r
+      → Answered (counted c.args.s.now) (links_of c.args.s.now) c.args.l.now c.args.buffer.now (Err r) c.args.buffer.now
   answered was = by_tests (counted c.args.s.now) (links_of c.args.s.now) c.args.l.now c.args.buffer.now (sym c.test_record.ensures ∙ ap result_err was)
 
   none_fails : {x : Unit {0}} → c.test_record.result ≡ Ok x → tests_of c.args.s.now c.args.l.now ≡ None

@@ -33,8 +33,10 @@ module _ (c : Start) where
 
 pub returns-clause-refusal : goal.returns-clause-refusal
 returns-clause-refusal c =
-    (write_clauses c.args.s c.args.l c.args.buffer.now (machine (goal.at.returns-clause-refusal c).Start) (c.from.ensures ∙ c.put_record.ensures.value) c.put_record.ensures.lent).0
+    (write_clauses c.args.s c.args.l c.args.buffer.now (machine (goal.at.returns-clause-refusal c).Start)
+    (c.from.ensures ∙ c.put_record.ensures.value) c.put_record.ensures.lent).0
 
 pub returns-clause-round_trip : goal.returns-clause-round_trip
 returns-clause-round_trip c =
-    (write_clauses c.args.s c.args.l c.args.buffer.now (machine (goal.at.returns-clause-round_trip c).Start) (c.from.ensures ∙ c.put_record.ensures.value) c.put_record.ensures.lent).1
+    (write_clauses c.args.s c.args.l c.args.buffer.now (machine (goal.at.returns-clause-round_trip c).Start)
+    (c.from.ensures ∙ c.put_record.ensures.value) c.put_record.ensures.lent).1

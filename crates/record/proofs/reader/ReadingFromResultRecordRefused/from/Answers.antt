@@ -13,5 +13,6 @@ use Rattle.record.proofs.reader.ReadingFromResultRecordRefused.from.Goals as goa
 pub returns-in-Err : goal.returns-in-Err
 unfolding refused_reading filled
 returns-in-Err c =
-    let zeros : ℕ → Reading = λ r. record { refusal = r; length = c.in-Err.refused.length; section = section_with (λ bit. pos 0) no_links []; load = load_with (λ bit. pos 0) } in
+    let zeros : ℕ → Reading = λ r.
+    record { refusal = r; length = c.in-Err.refused.length; section = section_with (λ bit. pos 0) no_links []; load = load_with (λ bit. pos 0) } in
     ap zeros c.number.ensures ∙ ap reading_as (sym c.in-Err.is)
