@@ -120,9 +120,7 @@ fn print_list<R: Read, W: Write>(reader: &mut R, writer: &mut W) -> Result<(), F
 {
     // fixed buffers, as nothing is allocated (a rule of the project)
     let mut input = [0u8; 65536];
-    let Ok(taken) = read_input(reader, &mut input) else {
-        return Err(Failure::NotRead);
-    };
+    let taken = read_input(reader, &mut input).map_err(|_| Failure::NotRead)?;
     let mut text = text_buffer();
     let m = put_text(taken, &mut text);
     write_whole(writer, &text[..m])?;

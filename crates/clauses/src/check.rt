@@ -20,8 +20,8 @@ use shear::Sheared;
 use verdicts::tension::tension_reinforcement;
 use verdicts::{Verdict, moment_verdict, most_verdict};
 
-// An accepted section as one of its faces sees it, with links and under a load that passed their tests. (Links as the struct for C has them: present
-// or not is asked once, in `link_report`.)
+// An accepted section as one of its faces sees it, with links and under a load that passed their tests. (Links as a section and a record have them,
+// with `present` in them: an Option of the two numbers would be a second form of the same, made for `link_report` alone.)
 #[derive(Clone, Copy)]
 pub struct Checking<'a> {
     pub face: &'a Accepted,

@@ -32,7 +32,8 @@ pub struct Face {
 
 // What Check finds of an accepted section and load: depth of the neutral axis and MRd of the face that M compresses, the same of
 // the other face, VRd,c in newtons, dm and As in mm and mm², of the links the strut's cotangent in tenths and the resistance in newtons,
-// and the verdicts in the documents' sequence. Here they stand by name, and in `Listed` as one array of their numbers.
+// and the verdicts in the documents' sequence. Here they stand by name, and in `Listed` as one array of their numbers. (u and MRd are no `Face`, which
+// the other face's are: document 01 lists the two among the rest, and so does `Listed`.)
 #[derive(Clone, Copy)]
 pub struct Report {
     pub u: u64,

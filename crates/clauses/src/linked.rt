@@ -8,7 +8,7 @@ use verdicts::tension::Reinforcement;
 use verdicts::{Verdict, judge};
 
 // The strut's cotangent in tenths, the links' resistance in newtons, and verdict six. (The figures are 0 where it is not reached, as the documents and
-// C have them: no Option.)
+// C have them: so no Option, and no `Strut` with a verdict beside it, since one of zeros is no strut.)
 #[derive(Clone, Copy)]
 pub struct LinkReport {
     pub cotangent: u64,

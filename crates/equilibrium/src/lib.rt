@@ -50,13 +50,13 @@ pub fn find_depth(s: Section, n: i64) -> Result<Depth, Refusal>
 }
 
 // Moment at a depth, with the top compressed: the moment resistance at u tenths of a millimetre, in N·mm.
-// Refusals: the section tests, and 13 where u is not in 1 to 30h (two comparisons, as the test has them: a range is no plainer).
+// Refusals: the section tests, and 13 where u is not in 1 to 30h.
 // The sequence of the layers makes no difference: law `rearranged_moment`.
 pub fn moment_at(s: Section, u: u64) -> Result<i64, Refusal>
     ensures value { result ≡ moment_at s u }
     ensures refusal { result_err result ≡ first_failing (moment_tests (counted s) u) }
 {
     let face = accept(&s)?;
-    Refusal::DepthRange.unless(1 <= u && u <= 30 * face.design.h)?;
+    Refusal::DepthRange.unless((1..=30 * face.design.h).contains(&u))?;
     Ok(resistance::moment_resistance(&face, u))
 }

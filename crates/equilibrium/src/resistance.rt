@@ -74,8 +74,8 @@ fn layer_moment_at(x: &Design, l: &Layer, u: u64) -> i64
     }
 }
 
-// MRd of an accepted section at a depth up to 30h. (The range is asked of a bare number here and by the two that call it: a struct for a depth and
-// its section would be made for one call.)
+// MRd of an accepted section at a depth up to 30h. (The range is asked of a bare number here, above, and by `report_of` of the clauses: a struct for
+// a depth and its section would be made for one call.)
 pub fn moment_resistance(face: &Accepted, u: u64) -> i64
     requires { DepthRange face.now.design u }
     ensures { result ≡ resistance_at face.now.design (layers_in face.now) u }

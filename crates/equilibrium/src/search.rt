@@ -39,16 +39,6 @@ impl Pair<i64> {
         }
         v as i64 - self.at / slope
     }
-
-    // The guess for the next round: by that line, and the middle once no round of these is left. (Five with `self`, each of another kind.)
-    fn next_guess(&self, v: u64, lo: u64, hi: u64, left: u64) -> i64
-        requires { (Within self.now.at 2028800000000000000 × (Within self.now.next 2028800000000000000 × (v ≤ 20000))) × ((lo ≤ 20000) × (hi ≤ 20000)) }
-    {
-        if left == 0 {
-            return ((lo + hi) / 2) as i64;
-        }
-        self.tangent(v)
-    }
 }
 
 impl Balance<'_> {
@@ -111,7 +101,11 @@ impl Balance<'_> {
             } else {
                 lo = v + 1;
             }
-            guess = p.next_guess(v, lo, hi, left);
+            guess = if left == 0 {
+                ((lo + hi) / 2) as i64
+            } else {
+                p.tangent(v)
+            };
         }
         lo
     }

@@ -46,7 +46,8 @@ pub struct Strut {
 }
 
 impl Truss {
-    // (6.8), the links at a cotangent of c tenths.
+    // (6.8), the links at a cotangent of c tenths. (A bare number, with its range in the clause, here and below: a struct for it would be opened in
+    // each product.)
     fn link_resistance(&self, c: u64) -> u64
         requires { (1 ≤ c) × (c ≤ 25) }
         ensures { result ≡ link_resistance self.now c }
@@ -66,8 +67,8 @@ impl Truss {
     // come first. The last of them before anything is rounded, 9 where there is none: (6.8) is at most (6.9) where
     // steel·(c² + 100) ≤ concrete. How many they are differs from section to section, and a branch would be guessed wrong: so the loop
     // has none.
-    // (9 and no Option: the loop begins there, and `Crossing` has it so. `bounds` hands on what the Model's invariant says, for the arithmetic of the
-    // caller.)
+    // (9 and no Option: the loop begins there, and `Crossing` has it so. `bounds` hands on what the Model's invariant says: the two functions below
+    // use no field, and see the value alone. `let _ = &self.b;` in each would tell it to them too; a clause says what is used.)
     fn crossing(&self) -> u64
         ensures crossing { Crossing self.now result }
         ensures bounds { TrussBounds self.now }
@@ -81,7 +82,7 @@ impl Truss {
         last
     }
 
-    // The first tenth at which the links resist as much as at `last`: where they resist little, several do.
+    // The first tenth at which the links resist as much as at `last`: where they resist little, several do. (`bounds` is what `crossing` hands on.)
     fn first_with(&self, last: u64, most: u64) -> u64
         requires bounds { TrussBounds self.now × ((10 ≤ last) × (last ≤ 25)) }
         requires most_is { most ≡ link_resistance self.now last }

@@ -7,6 +7,7 @@ mod line;
 mod records;
 
 ghost use Rattle.std.specs.Prelude.{◌≡◌, ◌+◌, ◌≤◌, leb, length};
+ghost use Rattle.record.specs.Write.{written_as};
 ghost use Rattle.listing.specs.Records.{list_of};
 ghost use Rattle.listing.specs.Code.Buffer.{Put, room_for};
 ghost use Rattle.listing.specs.Answers.{text_written, text_buffer, list_written, list_buffer};
@@ -29,7 +30,7 @@ fn put_text(out: &mut [u8], at: usize, text: &[u8]) -> usize
 }
 
 // The lines of the records in `input`, at the start of `out`; answers how many bytes they are.
-fn put_list(input: &[u8], out: &mut [u8]) -> usize
+fn put_lines(input: &[u8], out: &mut [u8]) -> usize
     requires { length (list_of input.now) ≤ length out.old }
     ensures { Put out.old 0 (list_of input.now) out.new result }
 {
@@ -51,24 +52,36 @@ fn long_enough(n: usize, room: usize) -> bool
 }
 
 // The list of `input`, at the start of `out`: its length; or 25 where `out` is shorter than 12 bytes for each byte of input and 48.
+fn put_list(input: &[u8], out: &mut [u8]) -> Result<usize, Refusal>
+    ensures value { written_as result ≡ list_written input.now out.old }
+    ensures lent { out.new ≡ list_buffer input.now out.old }
+{
+    Refusal::BufferTooShort.unless(long_enough(input.len(), out.len()))?;
+    Ok(put_lines(input, out))
+}
+
+// The one line for an input that is too long, refusal 26 with the number 0, at the start of `out`; or 25 as for an empty list.
+fn put_too_long(out: &mut [u8]) -> Result<usize, Refusal>
+    ensures value { written_as result ≡ text_written (room_for 0) too_long out.old }
+    ensures lent { out.new ≡ text_buffer (room_for 0) too_long out.old }
+{
+    Refusal::BufferTooShort.unless(long_enough(0, out.len()))?;
+    let line = line_of(0, &refused_listed(Refusal::InputTooLong.number()));
+    Ok(put_text(out, 0, line.as_bytes()))
+}
+
+// The list of `input`, as C is answered.
 pub fn list(input: &[u8], out: &mut [u8]) -> Written
     ensures value { result ≡ list_written input.now out.old }
     ensures lent { out.new ≡ list_buffer input.now out.old }
 {
-    if !long_enough(input.len(), out.len()) {
-        return Written::from(Err(Refusal::BufferTooShort));
-    }
-    Written::from(Ok(put_list(input, out)))
+    Written::from(put_list(input, out))
 }
 
-// The one line for an input that is too long, refusal 26 with the number 0, at the start of `out`; or 25 as for an empty list.
+// The one line for an input that is too long, in the same way.
 pub fn list_too_long(out: &mut [u8]) -> Written
     ensures value { result ≡ text_written (room_for 0) too_long out.old }
     ensures lent { out.new ≡ text_buffer (room_for 0) too_long out.old }
 {
-    if !long_enough(0, out.len()) {
-        return Written::from(Err(Refusal::BufferTooShort));
-    }
-    let line = line_of(0, &refused_listed(Refusal::InputTooLong.number()));
-    Written::from(Ok(put_text(out, 0, line.as_bytes())))
+    Written::from(put_too_long(out))
 }

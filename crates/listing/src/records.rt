@@ -5,6 +5,7 @@ ghost use Rattle.listing.specs.Records.{ends, records_left};
 
 use record::Reading;
 use record::reader::read;
+use refusals::Refusal;
 
 // What follows the records that are read: empty where the list has ended.
 #[derive(Clone, Copy)]
@@ -12,12 +13,14 @@ pub struct Records<'a> {
     pub rest: &'a [u8],
 }
 
-// Does the list end after this refusal? No length is known after 20, 21 and 22. (By the number: `ends`, of which the
-// laws of the list speak, is over the `Reading` that C is given.)
+// Does the list end after the refusal of that number? No length is known after these three. (By the number: what is read is the `Reading` that C is
+// given, of which the laws of the list speak.)
 fn list_ends(refusal: u64) -> bool
     ensures { result ≡ ends refusal }
 {
-    matches!(refusal, 20 | 21 | 22)
+    refusal == Refusal::MapCut.number()
+        || refusal == Refusal::UnknownField.number()
+        || refusal == Refusal::RecordCut.number()
 }
 
 // What is read of each record in turn.

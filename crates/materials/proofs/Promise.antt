@@ -70,10 +70,6 @@ module _ (i k : ℕ) {class : Class} (row : find k table ≡ Some class) {alphac
     crd-high = limit 13;
   }
 
--- the first of them is of the class alone
-pub class-high : (k : ℕ) {class : Class} → find k table ≡ Some class → k ≤ 90
-class-high k row = limit 1 k row (natural 80 100 (pos 100) refl) 0
-
 -- ---- nothing rounded
 
 -- 80 times the depth factor is whole at each class,
@@ -97,7 +93,8 @@ record Kept (grade : Grade) (k : Option Refusal) (a : Result Materials Refusal) 
 -- by cases of the four tests
 kept : (grade : Grade) (fck : ℤ) (row : Option Class) (steel situation factor : Bool) → grade.fck ≡ fck → row_of fck ≡ row
     → in_range (pos 400) (pos 600) grade.fyk ≡ steel → in_range (pos 80) (pos 100) grade.alphacc ≡ factor →
-    let k = first_failing (test ConcreteClass (in_table row) ∷ test SteelStrength steel ∷ test DesignSituation situation ∷ test LongTermFactor factor ∷ []) in Kept grade k (answered grade k row)
+    let ts = test ConcreteClass (in_table row) ∷ test SteelStrength steel ∷ test DesignSituation situation ∷ test LongTermFactor factor ∷ [] in
+    Kept grade (first_failing ts) (answered grade (first_failing ts) row)
 kept grade (pos k) (Some class) true true true is row y x =
     let n = natural 400 600 grade.fyk y in
     let i : ℕ = nat_abs grade.situation in

@@ -3,12 +3,12 @@
 
 #![tactic(auto)]
 
-ghost use Rattle.std.specs.Prelude.{◌≤◌, Some, true, ◌≡◌};
+ghost use Rattle.std.specs.Prelude.{◌≤◌, Some, true, ◌≡◌, option_map};
 ghost use Rattle.std.specs.Result.{result_err};
 ghost use Rattle.refusals.specs.Chain.{first_failing};
 ghost use Rattle.arith.specs.Fraction.{Same, whole, ◌*ᶠ◌};
 ghost use Rattle.materials.specs.Table.{table, find, row_of, in_table};
-ghost use Rattle.materials.specs.Situation.{situation_of, long_term};
+ghost use Rattle.materials.specs.Situation.{long_term};
 ghost use Rattle.materials.specs.Strength.{depth_factor, strength_factor, f, g, s, crd};
 ghost use Rattle.materials.specs.Answer.{numbers, materials_of, grade_tests, Exact, Promised};
 
@@ -107,7 +107,7 @@ const ACCIDENTAL: PartialFactors = PartialFactors {
     steel: 100, // γs 1.0
 };
 
-// The row of Table 3.1: T, E and D. A `match`, which is the table and the search in one; the rows below are asked only of a class that is there.
+// The row of Table 3.1: T, E and D. A `match`, which is the table and the search in one; the rows above are asked only of a class that is there.
 fn table_row(fck: u64) -> Option<Class>
     ensures { result ≡ find fck table }
 {
@@ -148,17 +148,16 @@ fn block_of(fck: u64) -> Block
 
 impl PartialFactors {
     // here, and not at the head: it names the struct, whose ghost fields import what stands there
-    ghost use Rattle.materials.specs.Code.Factors.{scaled};
+    ghost use Rattle.materials.specs.Code.Factors.{scaled, situation_in};
 
-    // The row of Table 2.1N: 1 persistent, 2 accidental. (By the number: `situation_of` takes it, and an Option
-    // would repeat the test at `look_up`.)
-    fn of(situation: u64) -> PartialFactors
-        ensures { scaled result ≡ situation_of situation }
+    // The row of Table 2.1N: 1 persistent, 2 accidental, and none of any other.
+    fn of(situation: i64) -> Option<PartialFactors>
+        ensures { option_map scaled result ≡ situation_in situation }
     {
-        if situation == 1 {
-            PERSISTENT
-        } else {
-            ACCIDENTAL
+        match situation {
+            1 => Some(PERSISTENT),
+            2 => Some(ACCIDENTAL),
+            _ => None,
         }
     }
 
@@ -171,7 +170,8 @@ impl PartialFactors {
         10 * alphacc * fck / self.concrete
     }
 
-    // f: the strength factor, in thousandths, times the same, rounded down once.
+    // f: the strength factor, in thousandths, times the same, rounded down once. (No one function with g: this one asks that η be that of the class, and
+    // g has none.)
     fn block_strength(self, fck: u64, eta: u64, alphacc: u64) -> u64
         requires in_range { (fck ≤ 90) × (alphacc ≤ 100) }
         requires eta_is { Same (whole eta) (whole 1000 *ᶠ strength_factor fck) }
@@ -195,7 +195,8 @@ impl PartialFactors {
         180 / self.concrete
     }
 
-    // All of them, of a class, a steel and an αcc that passed their tests. (Five with `self`, each of another kind.)
+    // All of them, of a class, a steel and an αcc that passed their tests. (Five with `self`: fck, fyk and αcc are a `Grade`'s, which has them signed and
+    // untested, as a record does; here they are past their tests.)
     fn design_values(self, fck: u64, fyk: u64, alphacc: u64, class: Class) -> Materials
         requires { (find fck table ≡ Some class) × ((fyk ≤ 600) × (alphacc ≤ 100)) }
         ensures { result ≡ numbers (long_term alphacc) (scaled self) fck fyk class }
@@ -227,9 +228,8 @@ pub fn look_up(grade: Grade) -> Result<Materials, Refusal>
 {
     let class = row_of(grade.fck).ok_or(Refusal::ConcreteClass)?;
     Refusal::SteelStrength.unless((400..=600).contains(&grade.fyk))?;
-    Refusal::DesignSituation.unless((1..=2).contains(&grade.situation))?;
+    let factors = PartialFactors::of(grade.situation).ok_or(Refusal::DesignSituation)?;
     Refusal::LongTermFactor.unless((80..=100).contains(&grade.alphacc))?;
-    let factors = PartialFactors::of(grade.situation.unsigned_abs());
     Ok(factors.design_values(
         grade.fck.unsigned_abs(),
         grade.fyk.unsigned_abs(),

@@ -1,4 +1,5 @@
--- A refusal with the length that it names, as the code makes it: `x.map_err(|refusal| Refused { refusal, length })?`. Assumes nothing.
+-- An error that is made another, `x.map_err(f)?`; and a refusal with the length that it names, `|refusal| Refused { refusal, length }`. Assumes
+-- nothing.
 use mathlib.Core.Path.{◌≡◌, sym, ap, ◌∙◌}
 use Prim.Native.Nat.{ℕ}
 use Rattle.std.specs.Prelude.{Result, Ok, Err}
@@ -7,12 +8,13 @@ use Rattle.std.proofs.lemmas.Result.{err_from_is_err_and}
 use Rattle.refusals.specs.declared.Refusal.{Refusal}
 use Rattle.record.specs.declared.reader.Refused.{Refused}
 
-module _ {A : Type 0} (P : Refusal → Refused → Type 0) where
-  -- it goes on: x was there
-  pub goes_on : (x : Result A Refusal) (y : Result A Refused) → MatchResult x (λ a. y ≡ Ok a) (λ e. IsErrAnd y (P e)) → {a : A} → y ≡ Ok a → x ≡ Ok a
-  goes_on (Ok b) y m was = let e : ◌≡◌ {A = Result A Refused} (Ok b) (Ok _) = sym m ∙ was in cc
-  goes_on (Err e) y m was = absurd (rw was at m)
+-- it goes on: x was there
+pub goes_on : {A E F : Type 0} (P : E → F → Type 0) (x : Result A E) (y : Result A F) → MatchResult x (λ a. y ≡ Ok a) (λ e. IsErrAnd y (P e))
+    → {a : A} → y ≡ Ok a → x ≡ Ok a
+goes_on {A} {E} {F} P (Ok b) y m was = let e : ◌≡◌ {A = Result A F} (Ok b) (Ok _) = sym m ∙ was in cc
+goes_on P (Err e) y m was = absurd (rw was at m)
 
+module _ {A : Type 0} (P : Refusal → Refused → Type 0) where
   -- it leaves: x was that refusal
   pub leaves : (x : Result A Refusal) (y : Result A Refused) (n : ℕ) → MatchResult x (λ a. y ≡ Ok a) (λ e. IsErrAnd y (P e))
       → ((e : Refusal) (r : Refused) → P e r → r ≡ record { refusal = e; length = n })

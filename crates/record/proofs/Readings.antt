@@ -50,15 +50,15 @@ chosen xs {m} {s} {l} a b c d k em es el ea eb ec ed ek =
     of m s l = by_answers (leb 4 (length xs)) (only_fields m) (leb (record_length m) (length xs)) (complete m) (record_length m) s l (tests_of s l)
 
 -- ---- the refusals
+widen : {ks rs : List Refusal} (o : Option Refusal) → ((r : Refusal) → OneOf ks r → OneOf rs r) → Among ks o → Among rs o
+widen None f h = record { some = tt }
+widen (Some r) f h = record { some = f r h.some }
+
 pub tests_among : {rs : List Refusal} (s : Section) (l : Load) → ((r : Refusal) → OneOf section_refusals r → OneOf rs r)
     → ((r : Refusal) → OneOf load_link_refusals r → OneOf rs r) → Among rs (tests_of s l)
 tests_among {rs} s l f g =
     rw (first_of (section_tests (counted s)) (load_link_tests (links_of s) l))
     (first_among (first_failing (section_tests (counted s))) (widen _ f (section_among (counted s))) (widen _ g (load_link_among (links_of s) l)))
-  where
-    widen : {ks : List Refusal} (o : Option Refusal) → ((r : Refusal) → OneOf ks r → OneOf rs r) → Among ks o → Among rs o
-    widen None f h = record { some = tt }
-    widen (Some r) f h = record { some = f r h.some }
 
 -- those of the map name no length, and those of the fields and of what they hold do
 map_among : (xs : List ℕ) → Among (MapCut ∷ UnknownField ∷ RecordCut ∷ []) (first_failing (map_tests xs))
@@ -89,6 +89,14 @@ module _ (xs : List ℕ) where
   first : first_failing (read_tests xs) ≡ option_or (first_failing (map_tests xs)) held
   unfolding read_tests
   first = first_of (map_tests xs) (held_tests m (section_of xs m) (load_of xs m))
+
+  -- no refusal but those of its tests
+  pub read_among : Among read_refusals (first_failing (read_tests xs))
+  unfolding held_refusals
+  read_among =
+      rw first
+      (first_among (first_failing (map_tests xs)) (widen _ (λ r. among read_refusals (MapCut ∷ UnknownField ∷ RecordCut ∷ []) tt) (map_among xs))
+      (widen _ (λ r. among read_refusals held_refusals tt) (held_among m (section_of xs m) (load_of xs m))))
 
   by_first : (o : Option Refusal) → first_failing (read_tests xs) ≡ o → reading_by (record_length m) (section_of xs m) (load_of xs m) o ≡ read_of xs
   unfolding read_of

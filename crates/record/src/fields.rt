@@ -1,7 +1,7 @@
 // The table of fields, bit by bit, as specs/Fields.antt has it. Reader and writer ask it what stands at a bit. A bit is a u32, as shifts and
 // std's counts have it, and a place a usize: hence the cast, which loses nothing.
 ghost use Rattle.std.specs.Prelude.{◌≡◌, ◌<◌};
-ghost use Rattle.record.specs.Fields.{field_of, missing};
+ghost use Rattle.record.specs.Fields.{field_of, must_stand, missing};
 
 // The fields that are signed numbers: document 01's b, h, fck, fyk, N, M and V, the design situation of 02's ticket 8 and the long-term
 // factor αcc of ticket 10.
@@ -73,7 +73,14 @@ pub fn field_of(k: u32) -> Field
     }
 }
 
-// What a number is where its bit does not stand.
+// Must a record have it?
+pub fn must_stand(f: Field) -> bool
+    ensures { result ≡ must_stand f }
+{
+    matches!(f, Field::Must(_))
+}
+
+// What a number is where its bit does not stand. (0 too of one that must stand: the numbers are read before test 23, which then refuses the record.)
 pub fn missing_value(f: Field) -> i64
     ensures { result ≡ missing f }
 {

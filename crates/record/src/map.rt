@@ -3,7 +3,7 @@
 ghost use Rattle.std.specs.Prelude.{◌≡◌, ◌<◌};
 ghost use Rattle.record.specs.Map.{stands, offset, record_length, only_fields, complete};
 
-use super::fields::WIDTH;
+use super::fields::{WIDTH, field_of, must_stand};
 
 // The length of a record with this map: 4 bytes, and 8 for each bit that stands.
 pub fn record_length(map: u32) -> usize
@@ -34,10 +34,13 @@ pub fn only_fields(map: u32) -> bool
     map >> WIDTH == 0
 }
 
-// Do the fields stand that must, those of bits 0 to 3? Test 23. (Four, written out as the test names them.)
-#[tactic(auto, unfolding(crate::specs::Map::complete, crate::specs::Map::complete_to))]
+// Do the fields stand that must? Test 23.
 pub fn is_complete(map: u32) -> bool
     ensures { result ≡ complete map }
 {
-    bit_stands(map, 3) && bit_stands(map, 2) && bit_stands(map, 1) && bit_stands(map, 0)
+    let mut complete = true;
+    for k in 0..WIDTH {
+        complete &= !must_stand(field_of(k)) || bit_stands(map, k);
+    }
+    complete
 }

@@ -1,12 +1,13 @@
 // Read a record: document 01, "When a call is turned down".
-ghost use Rattle.std.specs.Prelude.{true, ◌≡◌, ◌+◌, ◌<◌, ◌≤◌, length, IfOk};
+ghost use Rattle.std.specs.Prelude.{true, ◌≡◌, ◌+◌, ◌<◌, ◌≤◌, [], length, pos, IfOk};
 ghost use Rattle.std.specs.Result.{result_err};
 ghost use Rattle.refusals.specs.Number.{number_or_0};
 ghost use Rattle.refusals.specs.Chain.{first_failing};
+ghost use Rattle.section.specs.Section.{no_links};
 ghost use Rattle.record.specs.Fields.{field_of, is_number};
 ghost use Rattle.record.specs.Bytes.{number_at};
 ghost use Rattle.record.specs.Map.{record_length};
-ghost use Rattle.record.specs.Contents.{number_of, links_in, layer_at, layers_in, filled, section_of, load_of};
+ghost use Rattle.record.specs.Contents.{number_of, links_in, layer_at, layers_in, filled, section_with, section_of, load_of};
 ghost use Rattle.record.specs.Refusals.{map_in, map_tests, held_tests, read_tests};
 ghost use Rattle.record.specs.Read.{read_of, RestIgnored};
 ghost use Rattle.record.specs.Code.Answer.{reading_as};
@@ -39,7 +40,7 @@ struct Record {
     load: Load,
 }
 
-// Why none was read, and the length that is answered.
+// Why none was read, and the length that is answered. (0 where none is named, as `Reading` has it: an Option would be turned into that 0 at once.)
 #[derive(Clone, Copy)]
 struct Refused {
     refusal: Refusal,
@@ -156,27 +157,25 @@ impl<'a> Mapped<'a> {
     }
 }
 
-// What is answered of a refusal besides its number and its length. (Written out: a `Default` of these structs would offer a section that no call
-// accepts.)
-const NO_SECTION: Section = Section {
-    layers: [Layer { depth: 0, area: 0 }; 16],
-    width: 0,
-    height: 0,
-    grade: Grade {
-        fck: 0,
-        fyk: 0,
-        situation: 0,
-        alphacc: 0,
-    },
-    links: Links {
-        present: 0,
-        area: 0,
-        spacing: 0,
-    },
-    count: 0,
-};
-
-const NO_LOAD: Load = Load { n: 0, m: 0, v: 0 };
+// What is answered of a refusal for its section. (Zeros written out: a `Default` of these structs would offer a section that no call accepts.)
+#[tactic(auto, unfolding(crate::specs::Contents::filled))]
+fn no_section() -> Section
+    ensures { result ≡ section_with (λ bit. pos 0) no_links [] }
+{
+    Section {
+        layers: [Layer { depth: 0, area: 0 }; 16],
+        width: 0,
+        height: 0,
+        grade: Grade {
+            fck: 0,
+            fyk: 0,
+            situation: 0,
+            alphacc: 0,
+        },
+        links: no_links(),
+        count: 0,
+    }
+}
 
 impl From<Result<Record, Refused>> for Reading {
     ghost from_gives = { λ answer r. r ≡ reading_as answer };
@@ -192,8 +191,8 @@ impl From<Result<Record, Refused>> for Reading {
             Err(refused) => Reading {
                 refusal: refused.refusal.number(),
                 length: refused.length,
-                section: NO_SECTION,
-                load: NO_LOAD,
+                section: no_section(),
+                load: Load::default(),
             },
         }
     }

@@ -2,7 +2,8 @@
 use Prim.Native.Nat.{◌<◌}
 use lib.Dec.{lit<}
 use Rattle.refusals.specs.declared.Refusal.{Refusal}
-use Rattle.refusals.specs.declared.Refusal.TheVariants.{Width, Height, ConcreteClass, SteelStrength, LayerCount, LayerDepth, LayerArea, AxialForce, BendingMoment, ShearForce}
+use Rattle.refusals.specs.declared.Refusal.TheVariants.{Width, Height, ConcreteClass, SteelStrength, LayerCount, LayerDepth, LayerArea}
+use Rattle.refusals.specs.declared.Refusal.TheVariants.{AxialForce, BendingMoment, ShearForce}
 use Rattle.refusals.specs.declared.Refusal.TheVariants.{ForceTooLow, ForceTooHigh, DepthRange, MapCut, UnknownField, RecordCut, FieldMissing}
 use Rattle.refusals.specs.declared.Refusal.TheVariants.{BufferTooShort, InputTooLong, LinkArea, LinkSpacing, LinksUnderForce, DesignSituation, LongTermFactor}
 use Rattle.refusals.specs.Number.{number_of}

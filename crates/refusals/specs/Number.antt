@@ -1,7 +1,8 @@
 -- The documents' number of each refusal: document 01, "When a call is turned down", and 02's tickets 3, 8 and 10. Assumes nothing.
 use Rattle.std.specs.Prelude.{ℕ, Option, None, Some, Result, Ok, Err}
 use Rattle.refusals.specs.declared.Refusal.{Refusal}
-use Rattle.refusals.specs.declared.Refusal.TheVariants.{Width, Height, ConcreteClass, SteelStrength, LayerCount, LayerDepth, LayerArea, AxialForce, BendingMoment, ShearForce}
+use Rattle.refusals.specs.declared.Refusal.TheVariants.{Width, Height, ConcreteClass, SteelStrength, LayerCount, LayerDepth, LayerArea}
+use Rattle.refusals.specs.declared.Refusal.TheVariants.{AxialForce, BendingMoment, ShearForce}
 use Rattle.refusals.specs.declared.Refusal.TheVariants.{ForceTooLow, ForceTooHigh, DepthRange, MapCut, UnknownField, RecordCut, FieldMissing}
 use Rattle.refusals.specs.declared.Refusal.TheVariants.{BufferTooShort, InputTooLong, LinkArea, LinkSpacing, LinksUnderForce, DesignSituation, LongTermFactor}
 

@@ -13,17 +13,17 @@ use super::{Accepted, Design, Layer, Links, Load, Section};
 use materials::Materials;
 use refusals::Refusal;
 
-// (Comparisons here and in the next: a range is no plainer, and they are asked of each layer without a branch.)
+// (This test, the next, and the two of the links below: specs/ names them one by one, of other fields and other bounds. What they share is `contains`.)
 fn depth_ok(h: u64, l: &Layer) -> bool
     ensures { result ≡ depth_ok h l.now }
 {
-    1 <= l.depth && u64::from(l.depth) < h
+    (1..h).contains(&u64::from(l.depth))
 }
 
 fn area_ok(l: &Layer) -> bool
     ensures { result ≡ area_ok l.now }
 {
-    1 <= l.area && l.area <= 20000
+    (1..=20000).contains(&l.area)
 }
 
 // Do all depths pass test 6, and all areas test 7? All layers are asked, without a branch: by `all`, which stops at the first that fails, a depth
@@ -102,11 +102,7 @@ fn test_load(l: &Load) -> Result<(), Refusal>
 pub fn no_links() -> Links
     ensures { result ≡ no_links }
 {
-    Links {
-        present: 0,
-        area: 0,
-        spacing: 0,
-    }
+    Links::default()
 }
 
 // The links as they count: those that are present, or none.
@@ -120,17 +116,16 @@ pub fn counted_links(k: Links) -> Links
     }
 }
 
-// (Comparisons here and in the next, as of a layer: a range is no plainer.)
 fn link_area_ok(k: &Links) -> bool
     ensures { result ≡ link_area_ok k.now }
 {
-    1 <= k.area && k.area <= 5000
+    (1..=5000).contains(&k.area)
 }
 
 fn link_spacing_ok(k: &Links) -> bool
     ensures { result ≡ link_spacing_ok k.now }
 {
-    25 <= k.spacing && k.spacing <= 1000
+    (25..=1000).contains(&k.spacing)
 }
 
 // The tests of the links.

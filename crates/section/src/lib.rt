@@ -23,7 +23,7 @@ pub struct Layer {
 // Vertical links: the area of all their legs in mm², and their spacing along the member in mm. They are present or absent as a whole: 0 is
 // absent, any other number present. C is given no truth value. The numbers of absent links are never read.
 #[repr(C)]
-#[derive(Clone, Copy)]
+#[derive(Clone, Copy, Default)]
 pub struct Links {
     pub present: u64,
     pub area: u32,
@@ -43,9 +43,10 @@ pub struct Section {
     pub count: usize,
 }
 
-// N and V in newtons, N positive in compression; M in N·mm about mid-height, positive where it compresses the top.
+// N and V in newtons, N positive in compression; M in N·mm about mid-height, positive where it compresses the top. (A load stands beside its section in
+// the calls, as C gives the two: a struct of both would be made there and opened at the first test.)
 #[repr(C)]
-#[derive(Clone, Copy)]
+#[derive(Clone, Copy, Default)]
 pub struct Load {
     pub n: i64,
     pub m: i64,

@@ -1,6 +1,7 @@
--- The test kᵉ·a ≤ y: it never comes back, and what fits once fits below. Assumes nothing.
-use Prim.Native.Nat.{ℕ, ◌≤◌}
-use native.Mathlib.Nat.{le_trans, mul-le-mul_right, pow-le-pow_left, lt_of_le_of_lt}
+-- The test kᵉ·a ≤ y: it never comes back, and where its power and product fit, they fit below, and the number itself fits. Assumes nothing.
+use Prim.Native.Nat.{ℕ, suc, ◌^◌, ◌≤◌, ◌<◌}
+use native.Mathlib.Nat.{le_trans, mul-le-mul_right, pow-le-pow_left, pow-le-pow_right, pow-suc, pow-zero, one-mul, lt_of_le_of_lt}
+use native.Mathlib.Omega.{arith}
 use borrow.Author.Tests.{leb-true, le-leb}
 use Rattle.arith.proofs.Greatest.{NeverBack}
 use Rattle.shear.specs.Code.Power.{power_at_most, PowersFit}
@@ -14,3 +15,8 @@ fits_below {e} {a} h f = record {
   power = lt_of_le_of_lt (pow-le-pow_left h e) f.power;
   product = lt_of_le_of_lt (mul-le-mul_right a (pow-le-pow_left h e)) f.product;
 }
+
+-- and so does the number itself
+pub number_fits : {e a k : ℕ} → 1 ≤ e → PowersFit e a (suc k) → suc k < 2 ^ 64
+number_fits {e} {a} {k} h f =
+    lt_of_le_of_lt (rw (pow-suc (suc k) 0, pow-zero, one-mul) at (pow-le-pow_right {n = suc k} (omega arith) h)) f.power

@@ -1,11 +1,11 @@
 // Roots from a guess that is tested: nothing is promised of the guess. The number's first bits give one from a table, about two hundredths
 // off at most, and one step of Halley's rule leaves the cube of that. The remainders by powers of two only show that nothing overflows.
 // Each `as` is proved not to lose; try_from would add an exit that never comes.
-ghost use Rattle.std.specs.Prelude.{◌<◌, ◌≤◌, ◌≡◌, suc, ◌^◌};
+ghost use Rattle.std.specs.Prelude.{◌<◌, ◌≤◌, ◌≡◌};
 ghost use Rattle.arith.specs.Greatest.{greatest};
-ghost use Rattle.shear.specs.Code.Power.{power_at_most, PowersFit};
+ghost use Rattle.shear.specs.Code.Power.{power_at_most};
 
-use super::power::greatest_power_near;
+use super::power::Root;
 
 // 8,192 times the cube root of (m + 1/2)/64, for each m.
 pub static CUBE_STARTS: [u16; 64] = [
@@ -25,7 +25,7 @@ pub static SQUARE_STARTS: [u16; 64] = [
 
 // One step of Halley's rule from g towards the Eth root of z. The 1 keeps the divisor from being 0.
 fn step<const E: u32>(g: u64, z: u64) -> u64
-    // (E is 2 or 3 in three functions here: a trait for the two exponents, with that as its law, would be longer than the clause.)
+    // (As of `Root`, of which it is no part: it takes any g and z.)
     requires exponent { (2 ≤ E) × (E ≤ 3) }
     requires small { (g < 32768) × (z < 274877906944) }
 {
@@ -36,23 +36,20 @@ fn step<const E: u32>(g: u64, z: u64) -> u64
     g * (less * p + more * z) / (more * p + less * z + 1)
 }
 
-// About the Eth root of x, for x below 2³⁸. With (2ᴱ)ᵗ the power of 2ᴱ next above it, m is 64·x/(2ᴱ)ᵗ.
-fn guess<const E: u32>(starts: &[u16; 64], x: u64) -> u64
-    requires { (2 ≤ E) × (E ≤ 3) }
-{
-    let z = x % 274877906944;
-    let t = (63 + E - z.leading_zeros()) / E;
-    let m = (64 * z) >> (E * t % 64);
-    let start = u64::from(starts[(m % 64) as usize]);
-    step::<E>((start << t) / 8192 % 32768, z)
-}
+impl<const E: u32> Root<E> {
+    // About the Eth root of y/a, for a quotient below 2³⁸. With (2ᴱ)ᵗ the power of 2ᴱ next above it, m is 64·z/(2ᴱ)ᵗ.
+    fn guess(&self, starts: &[u16; 64]) -> u64 {
+        let z = self.y.checked_div(self.a).unwrap_or(0) % 274877906944;
+        let t = (63 + E - z.leading_zeros()) / E;
+        let m = (64 * z) >> (E * t % 64);
+        let start = u64::from(starts[(m % 64) as usize]);
+        step::<E>((start << t) / 8192 % 32768, z)
+    }
 
-// The greatest k up to `most` with kᴱ·a at most y, from a guess that is certified.
-pub fn root<const E: u32>(starts: &[u16; 64], a: u64, y: u64, most: u64) -> u64
-    requires exponent { (2 ≤ E) × (E ≤ 3) }
-    requires fits { PowersFit E a (suc most) × (suc most < 2 ^ 64) }
-    ensures { result ≡ greatest (power_at_most E a y) most }
-{
-    let quotient = y.checked_div(a).unwrap_or(0);
-    greatest_power_near::<E>(a, y, most, guess::<E>(starts, quotient))
+    // The root from a guess that is certified.
+    pub fn find(&self, starts: &[u16; 64]) -> u64
+        ensures { result ≡ greatest (power_at_most E self.now.a self.now.y) self.now.most }
+    {
+        self.near(self.guess(starts))
+    }
 }

@@ -11,7 +11,8 @@ ghost use Rattle.std.specs.Prelude.{◌≡◌, ◌≤◌};
 ghost use Rattle.arith.specs.Integer.{Within};
 ghost use Rattle.shear.specs.Shear.{r, q, v, c, concrete_share, axial_share, VRdc};
 
-use guess::{CUBE_STARTS, SQUARE_STARTS, root};
+use guess::{CUBE_STARTS, SQUARE_STARTS};
+use power::Root;
 use size::size_factor;
 use std::marker::Model;
 
@@ -46,7 +47,12 @@ fn least_root(fck: u64, k: u64) -> u64
     requires { (fck ≤ 90) × (k ≤ 2000) }
     ensures { result ≡ q fck k }
 {
-    root::<2>(&SQUARE_STARTS, 1000, fck * k.pow(3), 26832)
+    let root = Root::<2> {
+        a: 1000,
+        y: fck * k.pow(3),
+        most: 26832,
+    };
+    root.find(&SQUARE_STARTS)
 }
 
 impl Sheared {
@@ -62,7 +68,8 @@ impl Sheared {
             2000000000 * self.fck,
             100000000000 * self.area * self.fck,
         );
-        root::<3>(&CUBE_STARTS, a, y, 5646)
+        let root = Root::<3> { a, y, most: 5646 };
+        root.find(&CUBE_STARTS)
     }
 
     // v, the stress that the concrete carries.
@@ -103,6 +110,8 @@ impl Sheared {
     pub fn resistance(&self) -> u64
         ensures { result ≡ VRdc self.now }
     {
+        // With no tension layer As, dm and the shear resistance are 0: document 01, "Verdicts". As is a number there, and an Option would be a
+        // second form of it.
         if self.area < 1 {
             return 0;
         }

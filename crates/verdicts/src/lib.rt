@@ -29,6 +29,7 @@ impl Verdict {
     }
 }
 
+// (By name: a `From` of a truth value would not say which of the two it is that passes.)
 pub fn judge(passes: bool) -> Verdict
     ensures { result ≡ judged passes }
 {
@@ -43,7 +44,7 @@ pub fn moment_verdict(m: i64, top: i64, bottom: i64) -> Verdict
     judge(m <= top && -m <= bottom)
 }
 
-// The verdicts that ask for tension reinforcement.
+// The verdicts that ask for tension reinforcement: with area 0, which document 01 gives where no layer is in tension, they are not reached.
 impl Reinforcement {
     fn judge(self, passes: bool) -> Verdict
         ensures { result ≡ reached self.area (judged passes) }

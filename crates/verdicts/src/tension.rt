@@ -5,8 +5,8 @@ ghost use Rattle.verdicts.specs.Code.Ranges.{Counts};
 
 use section::Layer;
 
-// The reinforcement in tension: As in mm² and dm in mm. (No ghost fields for the bounds of `small`: `shear_verdict` asks nothing of them, and a
-// field would.)
+// The reinforcement in tension: As in mm² and dm in mm, both 0 with no tension layer, as document 01 has them and the list prints them: so no Option.
+// (No ghost fields for the bounds of `small`: `shear_verdict` asks nothing of them, and a field would.)
 #[derive(Clone, Copy)]
 pub struct Reinforcement {
     pub area: u64,

@@ -1,6 +1,7 @@
 -- What went out are the first bytes of the text, all of them or some.
 use Rattle.std.proofs.Common.{ℕ, List, IfSome, take}
 use Rattle.std.specs.Io.KnownBytes.{Appends}
+use Rattle.record.proofs.Named.{goes_on}
 use Rattle.listing.specs.Program.{printed_of}
 use Rattle.check_list.proofs.Printing.{of_all}
 use Rattle.check_list.proofs.print_list.Given.{Over}
@@ -10,7 +11,9 @@ use Rattle.check_list.proofs.print_list.Goals.{After-write_whole}
 -- what holds of the bytes of the text holds of the text for all that the reader had
 of_text : (g : Over) (c : After-write_whole g) (P : List ℕ → Type 0) → P (take c.put_text-m.result c.put_text-m.new.text)
     → IfSome (g.R.Read.remaining c.args.reader.now) (λ xs. P (printed_of xs))
-of_text g c P p = of_all _ _ _ _ _ P c.in-Ok.ensures.bytes c.put_text-m.ensures.text p
+of_text g c P p =
+    let taken = goes_on _ c.read_input.result c.map_err.result c.map_err.ensures.cases c.in_ok-taken.was in
+    of_all _ _ _ _ _ P (rw taken at c.read_input.ensures.bytes) c.put_text-m.ensures.text p
 
 part : (g : Over) (c : After-write_whole g) → IfSome (g.R.Read.remaining c.args.reader.now)
     (λ xs. (k : ℕ) × Appends (g.W.Write.contents c.args.writer.now) (g.W.Write.contents c.write_whole.new.writer) (take k (printed_of xs)))

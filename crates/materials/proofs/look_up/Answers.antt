@@ -1,23 +1,35 @@
 -- The equation by cases of the four tests, and the other clauses from it.
 use mathlib.Core.Path.{◌≡◌, sym, ap, ◌∙◌}
-use mathlib.Core.Bool.{true}
-use lib.IntN.{pos, nat_abs}
+use mathlib.Core.Bool.{true, false}
+use native.Mathlib.Omega.{arith}
+use lib.IntN.{ℤ, pos, nat_abs}
 use mir.Syntax.{w64}
 use mir.Val.{SFits, to_z, of_z}
 use mir.Facts.{to_z-of_z}
 use borrow.Author.Rules.{rules}
-use Rattle.std.specs.Prelude.{Some, Ok}
+use Rattle.std.specs.Prelude.{None, Some, Ok, option_map}
 use Rattle.arith.specs.Integer.{in_range}
 use Rattle.arith.proofs.Range.{natural}
 use Rattle.refusals.proofs.Exits.{passed, refused, is_there, is_missing, contained}
+use Rattle.materials.specs.declared.PartialFactors.{PartialFactors}
 use Rattle.materials.specs.Table.{row_of}
-use Rattle.materials.specs.Situation.{situation_of}
+use Rattle.materials.specs.Situation.{Situation, situation_of}
 use Rattle.materials.specs.Answer.{in_situation}
-use Rattle.materials.specs.Code.Factors.{scaled}
+use Rattle.materials.specs.Code.Factors.{scaled, situation_in}
 use Rattle.materials.proofs.Promise.{clauses}
 use Rattle.materials.proofs.Table.{class-row}
 use Rattle.materials.proofs.look_up.Goals as goal
-use Rattle.materials.proofs.look_up.Goals.{After-row_of, After-contains, After-contains-2, After-contains-3, After-unsigned_abs-4}
+use Rattle.materials.proofs.look_up.Goals.{After-row_of, After-contains, After-of, After-contains-2, After-unsigned_abs-3}
+
+-- ---- what the factors of a situation's number say of its test
+
+in_table_of : (k : ℤ) {j : Situation} → situation_in k ≡ Some j → (in_range (pos 1) (pos 2) k ≡ true) × (j ≡ situation_of (nat_abs k))
+in_table_of k was = grind arith
+
+not_in_table : (k : ℤ) → situation_in k ≡ None → in_range (pos 1) (pos 2) k ≡ false
+not_in_table k was = grind arith
+
+-- ---- the tests, one after the other
 
 module _ (c : After-row_of) where
   -- the four numbers as they are read
@@ -46,56 +58,55 @@ module _ (c : After-contains) where
   steel_test = contained _ c.new.ensures.start c.new.ensures.end c.new.ensures.exhausted c.contains.ensures.value
 
 -- and a steel in its range
-module _ (c : After-contains-2) where
+module _ (c : After-of) where
   abbrev classed : After-contains
-  classed = (goal.at.After-contains-2 c).After-contains
+  classed = (goal.at.After-of c).After-contains
 
-  steel_is : in_range (pos 400) (pos 600) c.args.grade.fyk ≡ true
-  steel_is = sym (steel_test classed) ∙ passed _ c.unless.ensures c.in_ok-unless.was
+  steel_is : {done : Unit {0}} → c.unless.result ≡ Ok done → in_range (pos 400) (pos 600) c.args.grade.fyk ≡ true
+  steel_is was = sym (steel_test classed) ∙ passed _ c.unless.ensures was
 
-  situation_test : c.contains-2.result ≡ in_range (pos 1) (pos 2) c.args.grade.situation
-  situation_test = contained _ c.new-2.ensures.start c.new-2.ensures.end c.new-2.ensures.exhausted c.contains-2.ensures.value
+  factors_of : option_map scaled c.of.result ≡ situation_in c.args.grade.situation
+  factors_of = c.of.ensures ∙ ap situation_in (situation_read (goal.at.After-of c).After-row_of)
 
 -- and a situation in its own
-module _ (c : After-contains-3) where
-  abbrev steel_tested : After-contains-2
-  steel_tested = (goal.at.After-contains-3 c).After-contains-2
+module _ (c : After-contains-2) where
+  abbrev steel_tested : After-of
+  steel_tested = (goal.at.After-contains-2 c).After-of
 
-  situation_is : in_range (pos 1) (pos 2) c.args.grade.situation ≡ true
-  situation_is = sym (situation_test steel_tested) ∙ passed _ c.unless-2.ensures c.in_ok-unless-2.was
+  situation : {j : PartialFactors} → c.ok_or-2.result ≡ Ok j → (in_range (pos 1) (pos 2) c.args.grade.situation ≡ true) × (scaled j ≡ in_situation c.args.grade)
+  situation was =
+      let is = is_there _ c.ok_or-2.ensures.value was in
+      in_table_of c.args.grade.situation (sym (factors_of steel_tested) ∙ ap (option_map scaled) is)
 
-  alphacc_test : c.contains-3.result ≡ in_range (pos 80) (pos 100) c.args.grade.alphacc
-  alphacc_test = contained _ c.new-3.ensures.start c.new-3.ensures.end c.new-3.ensures.exhausted c.contains-3.ensures.value
+  alphacc_test : c.contains-2.result ≡ in_range (pos 80) (pos 100) c.args.grade.alphacc
+  alphacc_test = contained _ c.new-2.ensures.start c.new-2.ensures.end c.new-2.ensures.exhausted c.contains-2.ensures.value
 
 -- and an αcc in its own
-module _ (c : After-unsigned_abs-4) where
-  abbrev tested : After-contains-3
-  tested = (goal.at.After-unsigned_abs-4 c).After-contains-3
+module _ (c : After-unsigned_abs-3) where
+  abbrev tested : After-contains-2
+  tested = (goal.at.After-unsigned_abs-3 c).After-contains-2
 
   abbrev begun : After-row_of
-  begun = (goal.at.After-unsigned_abs-4 c).After-row_of
+  begun = (goal.at.After-unsigned_abs-3 c).After-row_of
 
   alphacc_is : in_range (pos 80) (pos 100) c.args.grade.alphacc ≡ true
-  alphacc_is = sym (alphacc_test tested) ∙ passed _ c.unless-3.ensures c.in_ok-unless-3.was
+  alphacc_is = sym (alphacc_test tested) ∙ passed _ c.unless-2.ensures c.in_ok-unless-2.was
 
-  fck_abs : c.unsigned_abs-2.result ≡ nat_abs c.args.grade.fck
-  fck_abs = c.unsigned_abs-2.ensures.value ∙ ap nat_abs (fck_read begun)
+  fck_abs : c.unsigned_abs.result ≡ nat_abs c.args.grade.fck
+  fck_abs = c.unsigned_abs.ensures.value ∙ ap nat_abs (fck_read begun)
 
-  fyk_abs : c.unsigned_abs-3.result ≡ nat_abs c.args.grade.fyk
-  fyk_abs = c.unsigned_abs-3.ensures.value ∙ ap nat_abs (fyk_read begun)
+  fyk_abs : c.unsigned_abs-2.result ≡ nat_abs c.args.grade.fyk
+  fyk_abs = c.unsigned_abs-2.ensures.value ∙ ap nat_abs (fyk_read begun)
 
-  alphacc_abs : c.unsigned_abs-4.result ≡ nat_abs c.args.grade.alphacc
-  alphacc_abs = c.unsigned_abs-4.ensures.value ∙ ap nat_abs (alphacc_read begun)
-
-  factors_are : scaled c.of-factors.result ≡ in_situation c.args.grade
-  factors_are = c.of-factors.ensures ∙ ap situation_of (c.unsigned_abs.ensures.value ∙ ap nat_abs (situation_read begun))
+  alphacc_abs : c.unsigned_abs-3.result ≡ nat_abs c.args.grade.alphacc
+  alphacc_abs = c.unsigned_abs-3.ensures.value ∙ ap nat_abs (alphacc_read begun)
 
 pub design_values-requires : goal.design_values-requires
 design_values-requires c =
     let s = steel_tested (tested c) in (
       rw (fck_abs c) (class-row c.args.grade.fck (class_is (classed s))),
       (
-        rw (fyk_abs c) (natural 400 600 c.args.grade.fyk (steel_is s)).high,
+        rw (fyk_abs c) (natural 400 600 c.args.grade.fyk (steel_is s c.in_ok-unless.was)).high,
         rw (alphacc_abs c) (natural 80 100 c.args.grade.alphacc (alphacc_is c)).high,
       ),
     )
@@ -112,36 +123,38 @@ returns-in_err-unless-clause-value c =
     let a = (goal.at.returns-in_err-unless-clause-value c).After-contains in
     (clauses c.args.grade (rw (x.1, class_is a, sym (steel_test a) ∙ x.0))).0
 
+pub returns-in_err-factors : goal.returns-in_err-factors
+returns-in_err-factors c =
+    let a = (goal.at.returns-in_err-factors c).After-of in
+    let x = is_missing _ c.ok_or-2.ensures.value _ c.from_residual-in_err-factors.ensures.1 c.in_err-factors.was in
+    let none = not_in_table c.args.grade.situation (sym (factors_of a) ∙ ap (option_map scaled) x.0) in
+    let all = clauses c.args.grade {r = c.from_residual-in_err-factors.result} (rw (x.1, class_is (classed a), steel_is a c.in_ok-unless.was, none)) in
+    record { value = all.0; refusal = all.1.0; exact = all.1.1.0; promised = all.1.1.1 }
+
 pub returns-in_err-unless-2 : goal.returns-in_err-unless-2
 returns-in_err-unless-2 c =
     let x = refused _ c.unless-2.ensures _ c.from_residual-in_err-unless-2.ensures.1 c.in_err-unless-2.was in
     let a = (goal.at.returns-in_err-unless-2 c).After-contains-2 in
-    let all = clauses c.args.grade {r = c.from_residual-in_err-unless-2.result} (rw (x.1, class_is (classed a), steel_is a, sym (situation_test a) ∙ x.0)) in
-    record { value = all.0; refusal = all.1.0; exact = all.1.1.0; promised = all.1.1.1 }
-
-pub returns-in_err-unless-3 : goal.returns-in_err-unless-3
-returns-in_err-unless-3 c =
-    let x = refused _ c.unless-3.ensures _ c.from_residual-in_err-unless-3.ensures.1 c.in_err-unless-3.was in
-    let a = (goal.at.returns-in_err-unless-3 c).After-contains-3 in
     let s = steel_tested a in
-    let all = clauses c.args.grade {r = c.from_residual-in_err-unless-3.result} (rw (x.1, class_is (classed s), steel_is s, situation_is a, sym (alphacc_test a) ∙ x.0)) in
+    let all = clauses c.args.grade {r = c.from_residual-in_err-unless-2.result}
+    (rw (x.1, class_is (classed s), steel_is s c.in_ok-unless.was, (situation a c.in_ok-factors.was).0, sym (alphacc_test a) ∙ x.0)) in
     record { value = all.0; refusal = all.1.0; exact = all.1.1.0; promised = all.1.1.1 }
 
 pub returns : goal.returns
 returns c =
-    let a = (goal.at.returns c).After-unsigned_abs-4 in
+    let a = (goal.at.returns c).After-unsigned_abs-3 in
     let t = tested a in
     let s = steel_tested t in
     let all = clauses c.args.grade {r = Ok c.design_values.result}
     (simp (
       class_is (classed s),
-      steel_is s,
-      situation_is t,
+      steel_is s c.in_ok-unless.was,
+      (situation t c.in_ok-factors.was).0,
       alphacc_is a,
       c.design_values.ensures,
       fck_abs a,
       fyk_abs a,
       alphacc_abs a,
-      factors_are a,
+      (situation t c.in_ok-factors.was).1,
     )) in
     record { value = all.0; refusal = all.1.0; exact = all.1.1.0; promised = all.1.1.1 }

@@ -11,10 +11,10 @@ cube_high h = pow-le-pow_left h 3
 pub pow-requires : goal.pow-requires
 pow-requires c = omega (arith, cube_high c.requires.1)
 
-pub overflow_mul-fck : goal.overflow_mul-fck
-overflow_mul-fck c = rw c.pow.ensures (omega (arith, mul-le-mul c.requires.0 (cube_high c.requires.1)))
+pub overflow_mul-root : goal.overflow_mul-root
+overflow_mul-root c = rw c.pow.ensures (omega (arith, mul-le-mul c.requires.0 (cube_high c.requires.1)))
 
 pub returns : goal.returns
 returns c =
     let a = c.args in
-    rw (c.root.ensures, c.pow.ensures) (q_is a.fck a.k)
+    rw (c.find.ensures, c.pow.ensures) (q_is a.fck a.k)

@@ -58,12 +58,10 @@ module _ (c : After-unless) where
       → leb (record_length (map_of (counted c.args.s.now) (links_of c.args.s.now) c.args.l.now)) (length c.args.buffer.now) ≡ t
   fits_as e = ap (λ (n : ℕ). leb n (length c.args.buffer.now)) (sym length_is) ∙ e
 
-  passes : {x : Unit {0}} → c.test_record.result ≡ Ok x → tests_of c.args.s.now c.args.l.now ≡ None
-  passes = none_fails (goal.at.After-unless c).After-test_record
-
   short : leb c.record_length-length.result (length c.args.buffer.now) ≡ false → {x : Unit {0}} → c.test_record.result ≡ Ok x
       → Answered (counted c.args.s.now) (links_of c.args.s.now) c.args.l.now c.args.buffer.now (Err BufferTooShort) c.args.buffer.now
-  short e was = by_length (counted c.args.s.now) (links_of c.args.s.now) c.args.l.now c.args.buffer.now (passes was) (fits_as e)
+  short e was = by_length (counted c.args.s.now) (links_of c.args.s.now) c.args.l.now c.args.buffer.now
+      (none_fails (goal.at.After-unless c).After-test_record was) (fits_as e)
 
 pub returns-in_err-unless-clause-value : goal.returns-in_err-unless-clause-value
 returns-in_err-unless-clause-value c =
@@ -85,7 +83,7 @@ returns c =
     let fits = passed _ c.unless.ensures c.in_ok-unless.was in
     let long = leb-true c.record_length-length.result (length xs) fits in
     let a = done (counted s) (links_of s) l xs c.map-map.result c.record_length-length.result c.map-map.ensures c.record_length-length.ensures
-    (passes u c.in_ok-test_record.was) (fits_as u fits) (omega (arith, c.record_length-length.ensures)) in
+    (none_fails (goal.at.returns c).After-test_record c.in_ok-test_record.was) (fits_as u fits) (omega (arith, c.record_length-length.ensures)) in
     record {
       value = a.value;
       lent = c.put_fields.ensures

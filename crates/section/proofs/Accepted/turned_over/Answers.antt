@@ -14,7 +14,9 @@ loop-l-preserved c = search (rules, map_over_more (turned_layer c.args.self.now.
 
 module _ (c : After-loop-l) where
   all : take c.args.self.now.count c.loop-l.l-items ≡ turned c.args.self.now.design.h (layers_in c.args.self.now)
-  all = turned_places c.args.self.now.design.h c.args.self.now.count c.loop-l.l-index c.args.self.now.layers (omega (arith, c.loop-l-test.false, c.loop-l-test.array_long)) c.loop-l.invariant
+  all =
+      let x = c.args.self.now in
+      turned_places x.design.h x.count c.loop-l.l-index x.layers (omega (arith, c.loop-l-test.false, c.loop-l-test.array_long)) c.loop-l.invariant
 
 pub invariant_of-result : goal.invariant_of-result
 invariant_of-result c =

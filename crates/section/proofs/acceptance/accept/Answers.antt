@@ -40,7 +40,8 @@ module _ (c : After-unsigned_abs-2) where
       let fits_h : SFits w64 c.args.s.now.height = search rules in
       ap₂ (λ (b h : ℕ). Ok record { b = b; h = h; m = c.in_ok-m.m }) (c.unsigned_abs.ensures.value ∙ ap nat_abs (to_z-of_z fits_b))
       (c.unsigned_abs-2.ensures.value ∙ ap nat_abs (to_z-of_z fits_h))
-      ∙ ready_is (counted c.args.s.now) (sym (sym (ap result_err c.in_ok-m.was) ∙ c.test_section.ensures.refusal)) (IfOk-at_ok _ c.in_ok-m.was c.test_section.ensures.materials)
+      ∙ ready_is (counted c.args.s.now) (sym (sym (ap result_err c.in_ok-m.was) ∙ c.test_section.ensures.refusal))
+      (IfOk-at_ok _ c.in_ok-m.was c.test_section.ensures.materials)
 
   promise : SectionPromise (counted c.args.s.now) design
   promise = rw (← ready) at (section_promise c.args.s.now)

@@ -9,7 +9,7 @@ use mir.Val.{SFits, to_z, of_z}
 use mir.Facts.{to_z-of_z}
 use Rattle.arith.specs.Integer.{Within}
 use Rattle.arith.proofs.Greatest as greatest-laws
-use Rattle.arith.proofs.Greatest.{NeverBack, le-greatest, kept, dropped, greatest_between}
+use Rattle.arith.proofs.Greatest.{Candidates, NeverBack, le-greatest, kept, dropped, greatest_between}
 use Rattle.equilibrium.specs.Refusals.{carries}
 use Rattle.equilibrium.specs.Code.Whole.{excess}
 use Rattle.equilibrium.specs.declared.balance.Balance.{Balance}
@@ -17,7 +17,7 @@ use Rattle.equilibrium.proofs.Accuracy.{never_back}
 use Rattle.equilibrium.proofs.Sizes.{excess-in}
 use Rattle.equilibrium.proofs.Trials.{fails_at, passes_at}
 use Rattle.equilibrium.proofs.balance.Balance.by_pairs.Goals as goal
-use Rattle.equilibrium.proofs.balance.Balance.by_pairs.Goals.{After-excesses-p, then-p-gt0, else-p-gt0+else-p-gt0-2}
+use Rattle.equilibrium.proofs.balance.Balance.by_pairs.Goals.{After-excesses-p, Joined-p-gt0, then-p-gt0, else-p-gt0+else-p-gt0-2}
 
 abbrev test : Balance → ℕ → Bool
 test b = carries b.design.now b.layers.now b.n
@@ -65,28 +65,29 @@ returns-then-p-gt0-2 c =
     (passes_at s.design.now s.layers.now s.n (low e) (at_read e) c.if-p-gt0.false)
     (fails_at s.design.now s.layers.now s.n (omega arith) (next_read e) c.if-p-gt0-2.true)
 
-pub next_guess-guess-requires : goal.next_guess-guess-requires
-next_guess-guess-requires c =
-    let e = (goal.at.next_guess-guess-requires c).After-excesses-p in
-    let most = c.args.self.now.usable.bounded.h-high in
-    let hi = c.loop-lo.invariant.1.most in (
-      (at_in e, (next_in e, omega (arith, high e, most))),
+pub tangent-guess-requires : goal.tangent-guess-requires
+tangent-guess-requires c =
+    let e = (goal.at.tangent-guess-requires c).After-excesses-p in
+    (at_in e, (next_in e, omega (arith, high e, c.args.self.now.usable.bounded.h-high)))
+
+-- on whichever side the answer is, it is one of the candidates that are left
+module _ (c : Joined-p-gt0) where
+  left : (1 ≤ c.if-p-gt0.lo) × Candidates (test c.args.self.now) (10 * c.args.self.now.design.now.h) c.if-p-gt0.lo c.if-p-gt0.hi
+  left =
+      let s = c.args.self.now in
+      let e = (goal.at.Joined-p-gt0 c).After-excesses-p in
       elim c.if-p-gt0.branch [
-        | then-p-gt0 w ↦ (omega (arith, w.lo-is, c.loop-lo-test.true, hi, most), omega (arith, w.hi-is, high e, most))
-        | else-p-gt0+else-p-gt0-2 w ↦ (omega (arith, w.lo-is, high e, most), omega (arith, w.hi-is, hi, most))
-      ],
-    )
+        | then-p-gt0 w ↦
+            let fails = fails_at s.design.now s.layers.now s.n (low e) (at_read e) w.if-p-gt0.true in
+            rw (w.lo-is, w.hi-is)
+            (c.loop-lo.invariant.0, dropped (test s) (back s) (v e) (low e) (omega (arith, c.chosen-v.ensures.1)) fails c.loop-lo.invariant.1)
+        | else-p-gt0+else-p-gt0-2 w ↦
+            let passes = passes_at s.design.now s.layers.now s.n (omega arith) (next_read e) w.if-p-gt0-2.false in
+            rw (w.lo-is, w.hi-is) (omega arith, kept (test s) (v e + 1) (omega (arith, c.chosen-v.ensures.1)) passes c.loop-lo.invariant.1)
+      ]
 
 pub loop-lo-preserved : goal.loop-lo-preserved
-loop-lo-preserved c =
-    let s = c.args.self.now in
-    let e = (goal.at.loop-lo-preserved c).After-excesses-p in
-    elim c.if-p-gt0.branch [
-      | then-p-gt0 w ↦
-          let fails = fails_at s.design.now s.layers.now s.n (low e) (at_read e) w.if-p-gt0.true in
-          rw (w.lo-is, w.hi-is)
-          (c.loop-lo.invariant.0, dropped (test s) (back s) (v e) (low e) (omega (arith, c.chosen-v.ensures.1)) fails c.loop-lo.invariant.1)
-      | else-p-gt0+else-p-gt0-2 w ↦
-          let passes = passes_at s.design.now s.layers.now s.n (omega arith) (next_read e) w.if-p-gt0-2.false in
-          rw (w.lo-is, w.hi-is) (omega arith, kept (test s) (v e + 1) (omega (arith, c.chosen-v.ensures.1)) passes c.loop-lo.invariant.1)
-    ]
+loop-lo-preserved c = left (goal.at.loop-lo-preserved c).Joined-p-gt0
+
+pub loop-lo-preserved-then-left-eq0 : goal.loop-lo-preserved-then-left-eq0
+loop-lo-preserved-then-left-eq0 c = left (goal.at.loop-lo-preserved-then-left-eq0 c).Joined-p-gt0

@@ -3,7 +3,7 @@ use Prim.Native.Nat.{◌+◌}
 use Rattle.std.specs.Iterator.Adapters.{enumerate_source, enumerate_count}
 use Rattle.listing.specs.Records.{list_of, lines, records_left}
 use Rattle.listing.proofs.Finishing.{Left}
-use Rattle.listing.proofs.put_list.Given as goal
+use Rattle.listing.proofs.put_lines.Given as goal
 
 abbrev pub invariant-loop-before : goal.invariant-loop-before
 invariant-loop-before l =

@@ -5,15 +5,15 @@ use mathlib.Core.Path.{sym, ◌∙◌}
 use native.Mathlib.Omega.{arith}
 use Rattle.arith.proofs.Greatest.{start, kept, dropped, wider}
 use Rattle.shear.specs.Code.Power.{power_at_most}
-use Rattle.shear.proofs.Powers.{never_back, fits_below}
-use Rattle.shear.proofs.power.greatest_power.Given as given
-use Rattle.shear.proofs.power.greatest_power.Goals as goal
-use Rattle.shear.proofs.power.greatest_power.Goals.{At-loop-span}
+use Rattle.shear.proofs.Powers.{never_back}
+use Rattle.shear.proofs.power.Root.by_halving.Given as given
+use Rattle.shear.proofs.power.Root.by_halving.Goals as goal
+use Rattle.shear.proofs.power.Root.by_halving.Goals.{At-loop-span}
 
 -- the trial, and what is left of the span after it
 module _ (g : given.Over) (at : At-loop-span g) where
   abbrev test : ℕ → Bool
-  test = power_at_most g.row.E at.args.a at.args.y
+  test = power_at_most g.row.E at.args.self.now.a at.args.self.now.y
 
   abbrev rest : ℕ
   rest = at.loop-span.span / 2
@@ -23,24 +23,21 @@ module _ (g : given.Over) (at : At-loop-span g) where
 
 pub loop-span-init : goal.loop-span-init
 loop-span-init g c =
-    let s = c.args in
+    let s = c.args.self.now in
     let p = power_at_most g.row.E s.a s.y in
     wider p (0 + s.most) (omega arith) (omega arith) (start p s.most 0 (omega arith))
 
-pub power_at_most-requires : goal.power_at_most-requires
-power_at_most-requires g c = fits_below (omega (arith, c.loop-span.invariant.most)) c.requires
-
-pub loop-span-preserved-then-power_at_most : goal.loop-span-preserved-then-power_at_most
-loop-span-preserved-then-power_at_most g c =
+pub loop-span-preserved-then-passes : goal.loop-span-preserved-then-passes
+loop-span-preserved-then-passes g c =
     let at = c.before.before.before in
     let inv = at.loop-span.invariant in
     wider (test g at) (trial g at + rest g at) (omega arith) (omega (arith, inv.most))
-    (kept (test g at) (trial g at) (omega arith) (sym c.power_at_most.ensures ∙ c.if-power_at_most.true) inv)
+    (kept (test g at) (trial g at) (omega arith) (sym c.passes.ensures ∙ c.if-passes.true) inv)
 
 pub loop-span-preserved : goal.loop-span-preserved
 loop-span-preserved g c =
     let at = c.before.before.before in
-    let s = at.args in
+    let s = at.args.self.now in
     let inv = at.loop-span.invariant in
     wider (test g at) (at.loop-span.k + rest g at) (omega arith) (omega (arith, inv.most))
-    (dropped (test g at) (never_back g.row.E s.a s.y) (trial g at) (omega arith) (omega arith) (sym c.power_at_most.ensures ∙ c.if-power_at_most.false) inv)
+    (dropped (test g at) (never_back g.row.E s.a s.y) (trial g at) (omega arith) (omega arith) (sym c.passes.ensures ∙ c.if-passes.false) inv)
