@@ -15,6 +15,9 @@
 #include <stdint.h>
 
 /* Of this header: MAJOR changes where a caller must be compiled again, MINOR where something is added, PATCH else.
+ * 6.1.0: a record has its layers by rising depth, and equal depths by rising area (request 6). salwoerk_write puts them so, of whatever sequence it is
+ * handed, so that equal sections and loads have equal bytes; salwoerk_read and salwoerk_list refuse a record that has them otherwise with 31, which is
+ * new. Archives may hold such records: ./sort-records puts them in sequence. No struct and no signature changed.
  * 6.0.1: what is said of the sequence of layers; nothing else changed.
  * 6.0.0: the answer of salwoerk_find_depth holds after the depth the number of trials of the halving rule (request 12); so whoever calls it must be
  * compiled again. No other struct, no call and no other answer changed.
@@ -34,8 +37,8 @@
  * 2.0.0: verdict one and refusal 12 of salwoerk_check look at both faces, and its answer holds other_u and other_mrd before vrd; so whoever calls
  * it must be compiled again. */
 #define SALWOERK_VERSION_MAJOR 6
-#define SALWOERK_VERSION_MINOR 0
-#define SALWOERK_VERSION_PATCH 1
+#define SALWOERK_VERSION_MINOR 1
+#define SALWOERK_VERSION_PATCH 0
 #define SALWOERK_VERSION (SALWOERK_VERSION_MAJOR * 10000 + SALWOERK_VERSION_MINOR * 100 + SALWOERK_VERSION_PATCH)
 
 #ifdef __cplusplus
@@ -69,7 +72,8 @@ typedef struct {
 } salwoerk_links;
 
 /* Width and height in mm. Only the first `count` layers are read. They may stand in any sequence: it makes no difference to what salwoerk_find_depth,
- * salwoerk_moment_at and salwoerk_check answer, refusals included (request 2, proved). A record has them in the sequence in which they stand here. */
+ * salwoerk_moment_at and salwoerk_check answer, refusals included (request 2, proved), nor to the bytes that salwoerk_write writes (request 6, proved):
+ * a record has them by rising depth, and equal depths by rising area. */
 typedef struct {
     salwoerk_layer layers[SALWOERK_LAYERS];
     int64_t width, height;
@@ -114,6 +118,7 @@ enum salwoerk_refusal {
     SALWOERK_LINK_AREA = 27,
     SALWOERK_LINK_SPACING = 28,
     SALWOERK_LINKS_WITH_AXIAL_FORCE = 29,
+    SALWOERK_LAYER_SEQUENCE = 31, /* only of a record that is read */
     SALWOERK_SITUATION = 32,
     SALWOERK_ALPHA_CC = 34 /* the refusal; the factor is grade.alpha_cc */
 };
@@ -144,6 +149,7 @@ static inline const char *salwoerk_refusal_text(uint64_t refusal)
     case SALWOERK_LINK_AREA: return "link area not 1 to 5,000 mm2";
     case SALWOERK_LINK_SPACING: return "link spacing not 25 to 1,000 mm";
     case SALWOERK_LINKS_WITH_AXIAL_FORCE: return "links with N not 0";
+    case SALWOERK_LAYER_SEQUENCE: return "layers of the record not by rising depth, equal depths by rising area";
     case SALWOERK_SITUATION: return "design situation not 1 or 2";
     case SALWOERK_ALPHA_CC: return "alpha_cc not 80 to 100 hundredths";
     default: return "no refusal of this version";
@@ -256,9 +262,10 @@ typedef struct {
 } salwoerk_report;
 salwoerk_report salwoerk_check(salwoerk_section section, salwoerk_load load);
 
-/* Read a record; bytes after it are ignored. Refusals: 20 21 22 23, section tests, load tests, link tests. The length is answered on success, on 23
- * and on the section's, the load's and the links'. links.present is 1 where the record has links; else all of links is 0. grade.situation is 1 and
- * grade.alpha_cc is 100 where the record has none; of a refused reading they are 0, as is every other field of its section. */
+/* Read a record; bytes after it are ignored. Refusals: 20 21 22 23, section tests, 31, load tests, link tests. 31 is given where the layers of the
+ * record do not stand by rising depth, and equal depths by rising area; equal layers may follow each other. The length is answered on success, on 23,
+ * on 31 and on the section's, the load's and the links'. links.present is 1 where the record has links; else all of links is 0. grade.situation is 1
+ * and grade.alpha_cc is 100 where the record has none; of a refused reading they are 0, as is every other field of its section. */
 typedef struct {
     uint64_t refusal;
     size_t length;
@@ -271,7 +278,9 @@ salwoerk_reading salwoerk_read(const uint8_t *bytes, size_t length);
 #define SALWOERK_RECORD_ROOM 212
 
 /* Write a record into the buffer. Refusals: section tests, load tests, link tests, 25. A success answers the length and changes that many first
- * bytes and no others; a refusal changes none. */
+ * bytes and no others; a refusal changes none. The layers are written by rising depth, and equal depths by rising area, whatever their sequence in the
+ * section, which stays as it is: equal layers in any sequence, equal links, equal other fields and an equal load have equal bytes. Read back, the
+ * section has its layers so. */
 typedef struct { uint64_t refusal; size_t length; } salwoerk_written;
 salwoerk_written salwoerk_write(salwoerk_section section, salwoerk_load load, uint8_t *buffer, size_t length);
 

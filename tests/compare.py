@@ -7,7 +7,8 @@ PROGRAM is the check list program: records on standard input, the list on
 standard output. LIB.so is the engine as a shared object; without --library
 that part is left out, and what it assumes stands at the top of library.py.
 Beside the fixed records there are N random ones and as many columns, most of
-them with a depth beyond 10h (02, request 11).
+them with a depth beyond 10h (02, request 11); some of all these once more with
+their layers in any sequence (request 6).
 
 Every difference is printed with its record in hexadecimal and both answers.
 The last line is 'N passed, M failed'; the exit status is 1 on a failure.
@@ -38,6 +39,7 @@ from tally import Tally, check_accuracy, check_stated
 PATIENCE = 20         # seconds for one run of the program
 PIPE_PAUSE = 0.0005   # seconds between two pieces of a slow input
 DAMAGED_RUNS = 80     # runs of records damaged at random
+SEQUENCE_RUNS = 80    # runs of records in any sequence
 
 
 # --- running the list program -----------------------------------------------
@@ -154,9 +156,10 @@ def compare_program(tally, rng, program, samples):
     whole = [*joined("boundary", all_samples(), record), *joined("random", samples, anyhow)]
     for answers in compare_runs(tally, program, whole):
         inspect(tally, rng, answers)
-    broken = [*damaged.all_runs(), *sampling.damaged_runs(rng, samples, DAMAGED_RUNS)]
+    broken = [*damaged.all_runs(), *sampling.damaged_runs(rng, samples, DAMAGED_RUNS),
+              *sampling.sequence_runs(rng, samples, SEQUENCE_RUNS)]
     for _ in compare_runs(tally, program, broken):
-        pass  # a damaged record stands nowhere in particular
+        pass  # a record that is damaged, or was moved about, stands nowhere in particular
 
 
 # --- the library ------------------------------------------------------------

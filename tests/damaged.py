@@ -4,13 +4,15 @@ Each run is one standard input with the refusals that documents 01 and 02 state
 for its lines, in order.
 """
 
-from itertools import combinations
+from itertools import combinations, product
 from typing import NamedTuple, Optional
 
 import second
-from samples import I64_MAX, I64_MIN, SIXTEEN, U32_MAX, linked, record
-from second import (ACCIDENTAL, ACCIDENTAL_EXAMPLE, ALPHA_CC_BIT, BOTH_EXAMPLE, EXAMPLE, LINK_BIT, LINKED_EXAMPLE,
-                    REDUCED_EXAMPLE, SITUATION_BIT, Load, with_signed)
+from samples import (FAILINGS, I64_MAX, I64_MIN, SIXTEEN, U32_MAX, UNDER_LOAD, layer_samples, linked, record,
+                     typed_sections, with_layer)
+from second import (ACCIDENTAL, ACCIDENTAL_EXAMPLE, ALPHA_CC_BIT, BOTH_EXAMPLE, EXAMPLE, LAYER_BITS, LINK_BIT,
+                    LINKED_EXAMPLE, REDUCED_EXAMPLE, SECTION_TESTS, SEQUENCE_TEST, SITUATION_BIT, SWAPPED_EXAMPLE,
+                    Load, at_bits, laid_out, swapped_at, with_signed)
 
 ROOM = second.INPUT_ROOM
 MAP_0 = bytes(4)
@@ -86,15 +88,11 @@ def leftover_runs():
 
 def gap_runs():
     """'Layer bits may have gaps; layers are taken by rising bit.'"""
-    fields, places = fields_of(FULL), second.LAYER_BITS
-    others = {bit: value for bit, value in fields.items() if bit not in places}
-    layers = [value for bit, value in fields.items() if bit in places]
+    places = LAYER_BITS
     for bits in (places[-1:], (places[0], places[-1]), places[1:3], places[-2:], places[::2],
                  places[1::2], (10, 13, 14, 20), places[1:]):
-        spread = second.assemble({**others, **dict(zip(bits, layers))})
-        close = second.assemble({**others, **dict(zip(second.LAYER_BITS, layers[:len(bits)]))})
-        yield Run(f"layer bits {tuple(bits)}", spread + close, (0, 0))
-    yield Run("no layer bit", second.assemble(others) + EXAMPLE, (5, 0))
+        yield Run(f"layer bits {tuple(bits)}", at_bits(FULL, *bits) + at_bits(FULL, *places[:len(bits)]), (0, 0))
+    yield Run("no layer bit", at_bits(FULL) + EXAMPLE, (5, 0))
 
 
 def present_zero_runs():
@@ -153,7 +151,7 @@ def number_runs(field):
     for value in (*inside, *outside):
         refusal = 0 if value in inside else number
         yield Run(f"{name} {value}", with_signed(EXAMPLE, **{name: value}) + EXAMPLE, (refusal, 0))
-    no_layer = second.assemble({bit: value for bit, value in fields_of(EXAMPLE).items() if bit not in second.LAYER_BITS})
+    no_layer = at_bits(EXAMPLE)
     for value in inside:
         yield Run(f"no layer, {name} {value}", with_signed(no_layer, **{name: value}) + EXAMPLE, (5, 0))
     for value in {0, inside[0] - 1, inside[-1] + 1}:
@@ -186,6 +184,49 @@ def optional_bit_runs():
             yield Run(f"bit {unknown} before {number}", EXAMPLE + worse + EXAMPLE, (0, 21))
 
 
+def far_apart(data, count):
+    """The record with its layers, so many, as far apart as the bits allow."""
+    return at_bits(data, *LAYER_BITS[::(len(LAYER_BITS) - 1) // (count - 1)][:count])
+
+
+def sequence_runs():
+    """31 (02, request 6): layers as they stand, with and without gaps between their bits; the list goes on."""
+    for label, section, taken in typed_sections():
+        data = laid_out(section, UNDER_LOAD)
+        layouts = dict.fromkeys((data, far_apart(data, section.count)))
+        refusals = (0 if taken else SEQUENCE_TEST,) * len(layouts)
+        yield Run(label, b"".join(layouts) + EXAMPLE, (*refusals, 0))
+
+
+def sequence_order_runs():
+    """31 together with every other test of a section that has layers."""
+    for number, place in product([number for number in FAILINGS if number != 5], (0, 7, 14)):
+        section, load = FAILINGS[number](SIXTEEN, UNDER_LOAD)
+        first, then = (number, SEQUENCE_TEST) if number in SECTION_TESTS else (SEQUENCE_TEST, number)
+        yield Run(f"{first} before {then}, layers {place} and {place + 1} swapped",
+                  laid_out(swapped_at(section, place), load) + EXAMPLE, (first, 0))
+    for sample in layer_samples():
+        if sample.refusal:  # and most of these layers are out of sequence too
+            yield Run(f"{sample.label}, as it stands", laid_out(sample.section) + EXAMPLE, (sample.refusal, 0))
+    yield Run("6 of the first layer before 31 of the last two",
+              laid_out(swapped_at(with_layer(SIXTEEN, 0, depth=0), 14)) + EXAMPLE, (6, 0))
+    yield Run("7 of the last layer before 31 of the first two",
+              laid_out(swapped_at(with_layer(SIXTEEN, 15, area=20_001), 0)) + EXAMPLE, (7, 0))
+
+
+def map_before_sequence_runs():
+    """20, 21, 22 and 23 of a record whose layers are out of sequence."""
+    for size in range(1, len(SWAPPED_EXAMPLE)):
+        refusal = 20 if size < 4 else 22
+        yield Run(f"31 cut at {size}", SWAPPED_EXAMPLE + SWAPPED_EXAMPLE[:size], (SEQUENCE_TEST, refusal))
+    fields = fields_of(SWAPPED_EXAMPLE)
+    for bit in second.FORBIDDEN_BITS:
+        yield Run(f"bit {bit} before 31", second.assemble({**fields, bit: bytes(8)}) + EXAMPLE, (21,))
+    for absent in second.MANDATORY_BITS:
+        kept = {bit: value for bit, value in fields.items() if bit != absent}
+        yield Run(f"absent {absent} before 31", second.assemble(kept) + EXAMPLE, (23, 0))
+
+
 def size_runs():
     """Exactly 65,536 bytes are taken; one more is refusal 26."""
     copies = ROOM // len(EXAMPLE)
@@ -213,5 +254,6 @@ def slow_runs():
 def all_runs():
     """Every fixed run of this file."""
     for group in (cut_runs, forbidden_bit_runs, missing_bit_runs, leftover_runs, gap_runs,
-                  present_zero_runs, link_runs, situation_and_alpha_runs, optional_bit_runs, size_runs, slow_runs):
+                  present_zero_runs, link_runs, situation_and_alpha_runs, optional_bit_runs, sequence_runs,
+                  sequence_order_runs, map_before_sequence_runs, size_runs, slow_runs):
         yield from group()

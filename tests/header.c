@@ -60,7 +60,7 @@ TAKES(salwoerk_written, 16);
 LIES(salwoerk_written, refusal, 0, 8);
 LIES(salwoerk_written, length, 8, 8);
 
-_Static_assert(SALWOERK_VERSION == 60001, "6.0.1");
+_Static_assert(SALWOERK_VERSION == 60100, "6.1.0");
 _Static_assert(SALWOERK_MOST_TRIALS == 15, "20,000 candidates, halved and rounded up, are one after 15 trials");
 _Static_assert(SALWOERK_RECORD_ROOM == 212, "a map, seven numbers, the links, sixteen layers, the situation and alpha_cc");
 _Static_assert(SALWOERK_RECOMMENDED_ALPHA_CC == 100, "the recommended value of 3.1.6(1) is 1.0");
@@ -142,7 +142,7 @@ static uint8_t *put(uint8_t *at, uint64_t number, int bytes)
     return at;
 }
 
-/* Map and fields of a record, written here by the scope document and requests 3, 8 and 10 alone; its length. */
+/* Map and fields of a record, its layers as they stand, written here by the scope document and requests 3, 8 and 10 alone; its length. */
 static size_t record_of(uint32_t map, const salwoerk_section *s, salwoerk_load load, uint8_t *bytes)
 {
     int64_t fields[] = { s->width, s->height, s->grade.fck, s->grade.fyk, load.n, load.m, load.v };
@@ -244,6 +244,73 @@ static void refused_reading(void)
     s.width = 49;
     r = salwoerk_read(bytes, record_of(0x03FFFFFF, &s, load, bytes));
     require("1 with its length and zeros", r.refusal == SALWOERK_WIDTH && r.length == sizeof bytes && all_zeros(&r));
+}
+
+/* The section with layer i in place of layer order[i]. */
+static salwoerk_section rearranged(const salwoerk_section *s, const size_t *order)
+{
+    salwoerk_section moved = *s;
+    for (size_t i = 0; i < s->count; i++) moved.layers[order[i]] = s->layers[i];
+    return moved;
+}
+
+/* Sixteen layers, of which four are equal and four more of one depth: whatever their sequence, the bytes are those of the layers by rising depth, and
+ * equal depths by rising area, and so they are read back. */
+static void sequence_written(void)
+{
+    static const size_t orders[][SALWOERK_LAYERS] = {
+        { 15, 14, 13, 12, 11, 10, 9, 8, 7, 6, 5, 4, 3, 2, 1, 0 }, { 8, 9, 10, 11, 12, 13, 14, 15, 0, 1, 2, 3, 4, 5, 6, 7 },
+        { 0, 8, 1, 9, 2, 10, 3, 11, 4, 12, 5, 13, 6, 14, 7, 15 }, { 0, 1, 2, 3, 4, 5, 6, 7, 8, 9, 10, 11, 12, 13, 15, 14 },
+        { 1, 0, 2, 3, 4, 5, 6, 7, 8, 9, 10, 11, 12, 13, 14, 15 },
+    };
+    salwoerk_section s = distinct_section();
+    for (size_t i = 4; i < 8; i++) s.layers[i] = s.layers[4];
+    for (size_t i = 8; i < 12; i++) s.layers[i].depth = s.layers[8].depth;
+    for (size_t i = 0; i < sizeof orders / sizeof *orders; i++) {
+        uint8_t expected[SALWOERK_RECORD_ROOM], buffer[SALWOERK_RECORD_ROOM];
+        salwoerk_section moved = rearranged(&s, orders[i]);
+        size_t length = record_of(0x03FFFF7F, &s, distinct_load, expected);
+        salwoerk_written written = salwoerk_write(moved, distinct_load, buffer, sizeof buffer);
+        require("one sequence of layers on disk", written.refusal == 0 && written.length == length && !memcmp(buffer, expected, length));
+        require_read(salwoerk_read(buffer, length), length, &s, distinct_load);
+    }
+}
+
+/* A second layer after 450/1500, at each side of its bounds; 31 has the length and zeros. */
+static void sequence_read(void)
+{
+    static const struct { uint32_t depth, area; int64_t n; uint64_t refusal; } cases[] = {
+        { 450, 1500, 0, 0 }, { 450, 1501, 0, 0 }, { 451, 1499, 0, 0 }, { 450, 1499, 0, SALWOERK_LAYER_SEQUENCE }, { 449, 1501, 0, SALWOERK_LAYER_SEQUENCE },
+        { 50, 600, 0, SALWOERK_LAYER_SEQUENCE }, { 0, 600, 0, SALWOERK_LAYER_DEPTH }, { 50, 0, 0, SALWOERK_LAYER_AREA },
+        { 450, 1500, 500000001, SALWOERK_AXIAL_FORCE }, { 50, 600, 500000001, SALWOERK_LAYER_SEQUENCE },
+    };
+    for (size_t i = 0; i < sizeof cases / sizeof *cases; i++) {
+        uint8_t record[SALWOERK_RECORD_ROOM];
+        salwoerk_load load = { cases[i].n, 0, 0 };
+        salwoerk_section a = section_a();
+        a.count = 2;
+        a.layers[1].depth = cases[i].depth;
+        a.layers[1].area = cases[i].area;
+        salwoerk_reading r = salwoerk_read(record, record_of(0x0000031F, &a, load, record));
+        require("31, where it stands", r.refusal == cases[i].refusal && r.length == 60 && all_zeros(&r) == (cases[i].refusal != 0));
+        require("by value any sequence", salwoerk_check(a, load).refusal != SALWOERK_LAYER_SEQUENCE);
+    }
+}
+
+/* A record with 31 has its line, and the list goes on. */
+static void sequence_in_a_list(void)
+{
+    static const char lines[] = "1 31 0 0 0 0 0 2 2 2 2 2 2\n2 0 1358 257986051 86851 450 1500 0 0 0 0 0 2\n";
+    uint8_t records[2 * SALWOERK_RECORD_ROOM], text[SALWOERK_LIST_ROOM(sizeof records)];
+    salwoerk_section a = section_a(), two = section_a();
+    salwoerk_load load = { 0, 200000000, 80000 };
+    two.count = 2;
+    two.layers[1].depth = 50;
+    two.layers[1].area = 600;
+    size_t length = record_of(0x0000036F, &two, load, records);
+    length += record_of(0x0000016F, &a, load, records + length);
+    salwoerk_written w = salwoerk_list(records, length, text, sizeof text);
+    require("a list goes on after 31", w.refusal == 0 && w.length == sizeof lines - 1 && !memcmp(text, lines, sizeof lines - 1));
 }
 
 static void answers(void)
@@ -701,8 +768,8 @@ static void columns_in_a_list(void)
 /* Each number has a text of its own, and what is none has the text of none. */
 static void texts(void)
 {
-    static const uint64_t refusals[] = { 0, 1, 2, 3, 4, 5, 6, 7, 8, 9, 10, 11, 12, 13, 20, 21, 22, 23, 25, 26, 27, 28, 29, 32, 34 };
-    static const uint64_t none[] = { 14, 19, 24, 30, 31, 33, 35 };
+    static const uint64_t refusals[] = { 0, 1, 2, 3, 4, 5, 6, 7, 8, 9, 10, 11, 12, 13, 20, 21, 22, 23, 25, 26, 27, 28, 29, 31, 32, 34 };
+    static const uint64_t none[] = { 14, 19, 24, 30, 33, 35 };
     size_t count = sizeof refusals / sizeof *refusals;
     int alike = 0;
     for (size_t i = 0; i < count; i++) {
@@ -711,7 +778,7 @@ static void texts(void)
     }
     require("one text a refusal", !alike);
     for (size_t i = 0; i < sizeof none / sizeof *none; i++)
-        require("no refusal 14, 19, 24, 30, 31, 33, 35", salwoerk_refusal_text(none[i]) == salwoerk_refusal_text(99));
+        require("no refusal 14, 19, 24, 30, 33, 35", salwoerk_refusal_text(none[i]) == salwoerk_refusal_text(99));
     require("Table 3.1 behind 3", !strcmp(salwoerk_refusal_clause(SALWOERK_CONCRETE), "Table 3.1") && !*salwoerk_refusal_clause(SALWOERK_WIDTH));
     require("Table 2.1N behind 32", !strcmp(salwoerk_refusal_clause(SALWOERK_SITUATION), "Table 2.1N"));
     require("3.1.6(1) behind 34", !strcmp(salwoerk_refusal_clause(SALWOERK_ALPHA_CC), "3.1.6(1)"));
@@ -732,6 +799,9 @@ int main(void)
 {
     records();
     refused_reading();
+    sequence_written();
+    sequence_read();
+    sequence_in_a_list();
     answers();
     both_faces();
     depths_beyond();

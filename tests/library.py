@@ -10,8 +10,8 @@ import ctypes
 from ctypes import POINTER, c_int64, c_size_t, c_uint8, c_uint32, c_uint64
 
 import second
-from met import CASES, case_of, halved_depth, trial_turns
-from rearranged import compare_rearranged
+from met import CASES, case_of, halved_depth, sequence_kinds, trial_turns
+from rearranged import compare_rearranged, compare_rearranged_writes
 from samples import SIXTEEN, U32_MAX, Sample, UNDER_LOAD, all_samples, record, with_layer
 from second import LINK_TESTS, NO_LINKS, Layer, Links, Load, Section
 from tally import check_accuracy, check_accuracy_of_faces, check_stated
@@ -156,11 +156,16 @@ class Engine:
 # --- samples that only the library can meet ---------------------------------
 
 
+def any_layer(rng):
+    """Any bytes, or a layer that could be sorted in before others."""
+    return Layer(*rng.choice(((0, 0), (1, 1), (rng.randint(1, 2_000), rng.randint(1, 20_000)),
+                              (rng.getrandbits(32), rng.getrandbits(32)))))
+
+
 def beyond_count(rng, section):
-    """'Places beyond the counted layers are never read': fill them with any bytes."""
+    """'Places beyond the counted layers are never read': fill them with anything."""
     places = second.counted(section)
-    rest = [Layer(rng.getrandbits(32), rng.getrandbits(32))
-            for _ in range(second.PLACES - len(places))]
+    rest = [any_layer(rng) for _ in range(second.PLACES - len(places))]
     return section._replace(layers=tuple(places) + tuple(rest))
 
 
@@ -210,11 +215,15 @@ def hexadecimal(section, load):
 
 
 def note_case(tally, call, section, refusal):
-    """Count in which situation and with which αcc a call answers, and that it has refusals 32 and 34."""
+    """Count in which situation and with which αcc a call answers."""
     answered_in = case_of(section) if refusal == 0 else None
     for case in CASES:
         tally.coverage.note_call(f"{call} answers in {case}", case == answered_in)
-    for number in (32, 34):
+
+
+def note_refusal(tally, call, refusal):
+    """Count that a call has each refusal of its sequence."""
+    for number in second.SEQUENCES[call]:
         tally.coverage.note_call(f"{call} has refusal {number}", refusal == number)
 
 
@@ -247,6 +256,7 @@ def compare_depth(tally, rng, engine, sample):
     tally.compare(f"Find a depth, {sample.label}", hexadecimal(section, load), expected, answer)
     refusal, u, _ = answer
     note_case(tally, "Find a depth", section, refusal)
+    note_refusal(tally, "Find a depth", refusal)
     tally.coverage.note_call("Find a depth answers where Check refuses the links",
                              refusal == 0 and links_refused(section, load) != 0)
     note_beyond(tally, section, load.n, expected)
@@ -265,6 +275,7 @@ def compare_moment(tally, rng, engine, sample):
         expected = second.moment_at_depth(sample.section, u)
         tally.coverage.refusals[expected[0]] += expected[0] == 13
         note_case(tally, "Moment at a depth", sample.section, expected[0])
+        note_refusal(tally, "Moment at a depth", expected[0])
         tally.coverage.note_call(f"Moment at a depth answers at {name}" if name in inside
                                  else f"Moment at a depth has refusal 13 at {name}",
                                  expected[0] == (0 if name in inside else 13))
@@ -296,6 +307,7 @@ def compare_check(tally, rng, engine, sample):
     check_stated(tally, sample, answer)
     note_presence(tally, section, load, answer)
     note_case(tally, "Check", section, answer.refusal)
+    note_refusal(tally, "Check", answer.refusal)
     if answer.refusal == 0:
         check_accuracy_of_faces(tally, rng, section, load, answer)
 
@@ -306,10 +318,26 @@ def compare_sequence(tally, rng, engine, sample):
     compare_rearranged(tally, rng, engine, sample, (*inside.values(), *outside.values()), hexadecimal)
 
 
+def length_to_try(section, load):
+    """The length of their record; of the example where they have none."""
+    return second.write_record(section, load, bytearray(second.LONGEST_RECORD))[1] or len(second.EXAMPLE)
+
+
+def note_written(tally, section, written):
+    """Count what the writer was handed of sequences (02, request 6)."""
+    layers, beyond = second.counted(section), section.layers[section.count:]
+    for kind, so in sequence_kinds(layers):
+        tally.coverage.note_call(f"Write a record, layers: {kind}", written and so)
+    tally.coverage.note_call("Write a record, absent links with numbers",
+                             written and not second.has_links(section) and section.links != NO_LINKS)
+    tally.coverage.note_call("Write a record, a place beyond the count would come before a layer",
+                             written and any(second.comes_too_late(max(layers), place) for place in beyond))
+
+
 def compare_write(tally, rng, engine, sample):
     """Write a record into rooms around its length: every byte, guards too."""
     section, load = sample.section, sample.load
-    length = second.write_record(section, load, bytearray(second.LONGEST_RECORD))[1] or len(second.EXAMPLE)
+    length = length_to_try(section, load)
     for room in (0, length - 1, length, length + 1, length + 50):
         memory = bytearray(rng.randbytes(room + 2 * GUARD))
         answer = engine.write(section, load, bytes(memory))
@@ -319,21 +347,40 @@ def compare_write(tally, rng, engine, sample):
         tally.coverage.refusals[25] += expected[0] == 25
         tally.coverage.note_call("Write sets bit 7 for a present other than 1",
                                  expected[0] == 0 and section.links.present > 1)
-        note_case(tally, "Write", section, expected[0])
+        note_case(tally, "Write a record", section, expected[0])
+        note_refusal(tally, "Write a record", expected[0])
+        if room == length:
+            note_written(tally, section, expected[0] == 0)
         for number in (32, 34, *LINK_TESTS):
             tally.coverage.note_call(f"Write: {number} before 25", expected[0] == number and room == 0)
         tally.compare(f"Write a record, room {room}, {sample.label}",
                       hexadecimal(section, load), (expected, bytes(memory)), answer)
 
 
+def compare_written_sequence(tally, rng, engine, sample):
+    """The same bars in another sequence (02, request 6): what is written of them, where there is room and where not."""
+    length = length_to_try(sample.section, sample.load)
+    surroundings = {room: rng.randbytes(room + 2 * GUARD) for room in (length - 1, length, length + 50)}
+    compare_rearranged_writes(tally, rng, engine, sample, surroundings, hexadecimal)
+
+
 def compare_read(tally, engine, label, data):
     """Read a record from bytes, whatever they are."""
-    tally.compare(f"Read a record, {label}", data.hex(),
-                  second.read_record(data), engine.read(data))
+    expected = second.read_record(data)
+    note_refusal(tally, "Read a record", expected.refusal)
+    tally.compare(f"Read a record, {label}", data.hex(), expected, engine.read(data))
+
+
+def compare_read_as_it_stands(tally, rng, engine, sample):
+    """The sample's layers laid out as they stand, where that is not the sequence of records (02, request 6)."""
+    section = sample.section
+    if section.count <= second.PLACES and second.out_of_sequence(second.counted(section)):
+        compare_read(tally, engine, f"layers as they stand, {sample.label}", second.laid_out(section, sample.load))
 
 
 def compare_read_back(tally, rng, engine, sample):
-    """The sample's record and bytes after it, read again: the same section and load.
+    """The sample's record and bytes after it, read again: the same section and load, 'with its layers so ordered' (02,
+    request 6).
 
     A sample out of range has its refusal; a count above 16 has no record. Links
     come back present by 1, or absent with zeros.
@@ -345,10 +392,14 @@ def compare_read_back(tally, rng, engine, sample):
     data = written + rng.randbytes(rng.randint(0, 9))
     expected = second.read_record(data)
     note_case(tally, "Read back", section, expected.refusal)
+    note_refusal(tally, "Read a record", expected.refusal)
+    moved = second.out_of_sequence(second.counted(section))
+    for name, met in (("in the sequence that they had", not moved), ("in another sequence", moved)):
+        tally.coverage.note_call(f"Read back, layers {name}", expected.refusal == 0 and met)
     if expected.refusal == 0:
         empty = (Layer(0, 0),) * (second.PLACES - section.count)
         links = section.links._replace(present=1) if second.has_links(section) else NO_LINKS
-        kept = section._replace(layers=second.counted(section) + empty, links=links)
+        kept = section._replace(layers=second.counted(second.in_sequence(section)) + empty, links=links)
         expected = second.Reading(0, len(written), kept, load)
     tally.compare(f"Read back, {sample.label}", data.hex(), expected, engine.read(data))
 
@@ -370,7 +421,9 @@ SAMPLE_COMPARISONS = (
     (("check",), compare_check),
     (("find_depth", "moment", "check"), compare_sequence),
     (("write",), compare_write),
+    (("write",), compare_written_sequence),
     (("read",), compare_read_back),
+    (("read",), compare_read_as_it_stands),
 )
 
 

@@ -3,25 +3,27 @@
 
 The input is the 60-byte example of document 01, "The list", then records
 that meet every refusal after which a list goes on, with and without the links
-of request 3 of 02, in both situations of request 8, with αcc of request 10 and
-with depths beyond 10h of request 11, and a 22 at the end.
+of request 3 of 02, in both situations of request 8, with αcc of request 10, with
+depths beyond 10h of request 11 and with layers in and out of the sequence of
+request 6, and a 22 at the end.
 Both files come from the second implementation (second.py), which is written
 from the paper, and not from the program.
 """
 
 from pathlib import Path
 
-from second import (ACCIDENTAL_A, ACCIDENTAL_EXAMPLE, ACCIDENTAL_TIE, BEYOND_EXAMPLE, BOTH_A, BOTH_EXAMPLE,
+from second import (ACCIDENTAL, ACCIDENTAL_A, ACCIDENTAL_EXAMPLE, ACCIDENTAL_TIE, BEYOND_EXAMPLE, BOTH_A, BOTH_EXAMPLE,
                     BOTH_TIE, COLUMN, EXAMPLE, EXAMPLE_LIST, FAIL, HEADER, LARGE, LAYER_BITS, LINKED_EXAMPLE,
                     MANDATORY_BITS, MIXED, NO_LOAD, OPTIONAL_FIELDS, PASS, REDUCED_A, REDUCED_EXAMPLE, REDUCED_TIE,
-                    SECTION_A, SEQUENCES, SIXTEEN, SMALL, TIE, TURNED_A, UNREADABLE, Layer, Load, assemble,
-                    fields_written, layer_bytes, list_answers, list_text, section_of, signed_bytes, with_links)
+                    SECTION_A, SEQUENCES, SIXTEEN, SMALL, SWAPPED_EXAMPLE, TIE, TURNED_A, TWO_EXAMPLE, TWO_LAYERS,
+                    UNREADABLE, Layer, Load, assemble, at_bits, fields_written, laid_out, links_of, list_answers,
+                    list_text, section_of, signed_bytes, swapped_at, with_links)
 
 CRATE = Path(__file__).resolve().parent.parent / "crates" / "check_list"
 
 
 def record(section=SECTION_A, load=NO_LOAD, **change):
-    """The bytes of a section, in or out of range; `change` replaces fields of it."""
+    """The bytes of a section, in or out of range, its layers in sequence; `change` replaces fields of it."""
     return assemble(fields_written(section._replace(**change), load))
 
 
@@ -42,10 +44,7 @@ def with_present(section, *names):
 
 def with_gaps():
     """Layers at the second and the last of their bits, and N, M and V present as 0."""
-    fields = fields_written(SECTION_A, NO_LOAD)
-    layer = fields.pop(LAYER_BITS[0])
-    fields.update({LAYER_BITS[1]: layer, LAYER_BITS[-1]: layer_bytes(Layer(50, 600))})
-    return assemble({**fields, **present(*Load._fields)})
+    return at_bits(with_present(TWO_LAYERS, *Load._fields), LAYER_BITS[1], LAYER_BITS[-1])
 
 
 def without(bit):
@@ -298,11 +297,48 @@ def columns_with_line():
     ]
 
 
+def sequences_with_line():
+    """Records with their layers in sequence and out of it and the line of each: 31 and what stands beside it."""
+    def typed(*layers, load=NO_LOAD, **change):
+        return laid_out(section_of(300, 500, 30, 500, layers)._replace(**change), load)
+
+    top, low = (50, 600), (450, 1_500)
+    of_a, of_two = "0 1358 257986051 86851 450 1500 0 0 0 0 0 2", "0 946 266374148 86851 450 1500 0 0 0 0 0 2"
+    full = SIXTEEN._replace(links=links_of(101, 200), situation=ACCIDENTAL, alpha_cc=85)
+    return [
+        (TWO_EXAMPLE, of_two),
+        (SWAPPED_EXAMPLE, refused_line(31)),
+        (at_bits(TWO_EXAMPLE, 9, 23), of_two),
+        (at_bits(SWAPPED_EXAMPLE, 9, 23), refused_line(31)),
+        (typed((450, 750), (450, 750)), of_a),  # the area of A in two layers: equal ones
+        (typed((450, 749), (450, 751)), of_a),
+        (typed((450, 751), (450, 749)), refused_line(31)),
+        (typed((450, 750), (449, 750)), refused_line(31)),
+        (typed((449, 800), (450, 700)), "0 1358 257638227 86764 449 1500 0 0 0 0 0 2"),  # by rising depth alone
+        (typed((449, 700), (449, 800), (448, 1)), refused_line(31)),
+        (laid_out(LARGE), refused_line(31)),  # whose record is among the columns
+        (laid_out(swapped_at(full, 0)), refused_line(31)),
+        (laid_out(swapped_at(full, 14)), refused_line(31)),
+        (typed((500, 1_500), top), refused_line(6)),         # before 31
+        (typed(low, (0, 600)), refused_line(6)),             # before 31
+        (typed((450, 0), top), refused_line(7)),             # before 31
+        (typed((450, 1_500), (450, 0)), refused_line(7)),    # before 31
+        (typed(low, top, situation=3), refused_line(32)),    # before 31
+        (typed(low, top, load=Load(500_000_001, 0, 0)), refused_line(31)),   # before 8
+        (typed(low, top, load=Load(0, 10**12 + 1, 0)), refused_line(31)),    # before 9
+        (typed(low, top, load=Load(0, 0, -500_000_001)), refused_line(31)),  # before 10
+        (typed(low, top, links=links_of(0, 200)), refused_line(31)),         # before 27
+        (typed(low, top, links=links_of(101, 24)), refused_line(31)),        # before 28
+        (typed(low, top, links=links_of(101, 200), load=Load(1, 0, 0)), refused_line(31)),  # before 29
+        (typed(low, top, load=Load(-500_000_000, 0, 0)), refused_line(31)),  # before 11
+    ]
+
+
 def main():
     """Write the two files, after a look at what they must have."""
     verdicts = with_link_verdict()
     lines = (accidental_with_line() + situations_with_line() + reduced_with_line() + alphas_with_line()
-             + beyond_with_line() + columns_with_line())
+             + beyond_with_line() + columns_with_line() + sequences_with_line())
     data = b"".join([EXAMPLE, *accepted(), *(piece for piece, _ in verdicts), *refused(),
                      *(piece for piece, _ in lines), record()[:-1]])
     text = list_text(data)

@@ -5,11 +5,12 @@ so each one that the papers make reachable has to be met at least once, verdicts
 and turns in each situation of request 8 of 02, both with αcc 100 and below it
 (request 10), and every αcc with every class in both situations, with depths up
 to 10h and beyond (request 11). Every number of trials that Find a depth can
-answer has to be met too (request 12).
+answer has to be met too (request 12), and layers in and out of the sequence of
+records, by each kind of step from a layer to the next (request 6).
 """
 
 from collections import Counter
-from itertools import product
+from itertools import groupby, product
 from math import ceil
 from typing import NamedTuple
 
@@ -374,6 +375,78 @@ def presence_turns(subject):
             fields.get(field.bit) == second.signed_bytes(field.missing))
 
 
+# --- the sequence of layers on disk: request 6 of 02 ----------------------------
+
+
+def runs_of_equals(values):
+    """How many there are where equal ones that follow each other are one."""
+    return sum(1 for _ in groupby(values))
+
+
+def sequence_kinds(layers):
+    """What layers are beside the writer's sequence: (what, whether these are so)."""
+    pairs, depths = list(zip(layers, layers[1:])), [layer.depth for layer in layers]
+    ordered = not second.out_of_sequence(layers)
+    depths_fall = any(after.depth < before.depth for before, after in pairs)
+    areas_fall = any(after.depth == before.depth and after.area < before.area for before, after in pairs)
+    for number in (2, 3, second.PLACES):
+        yield f"{number} in sequence", ordered and len(layers) == number
+        yield f"{number} out of sequence", not ordered and len(layers) == number
+    yield "in sequence, equal depths", ordered and any(
+        before.depth == after.depth and before.area < after.area for before, after in pairs)
+    yield "in sequence, equal layers", ordered and any(before == after for before, after in pairs)
+    yield "in sequence, a deeper one of lesser area", ordered and any(
+        after.area < before.area for before, after in pairs)
+    yield "out of sequence by depths alone", depths_fall and not areas_fall
+    yield "out of sequence by areas alone", areas_fall and not depths_fall
+    yield "out of sequence by both", depths_fall and areas_fall
+    yield "out of sequence, and in sequence back to front", not ordered and not second.out_of_sequence(layers[::-1])
+    yield "out of sequence, equal layers apart", runs_of_equals(layers) > len(set(layers))
+    yield "out of sequence, equal depths apart", runs_of_equals(depths) > len(set(depths))
+
+
+UNITS = {-1: "a unit less", 0: "equal", 1: "a unit more"}
+NEIGHBOURS = ("the only two", "the first two", "two between", "the last two")
+
+
+def neighbours_named(place, last):
+    """Which two of a record's layers follow each other at this place; the last two do at the last one."""
+    return NEIGHBOURS[0 if last == 0 else 1 if place == 0 else 3 if place == last else 2]
+
+
+def neighbour_turns(layers):
+    """Two neighbours at most a unit apart: any two of layers in sequence, else the only two that are out of it."""
+    pairs = list(zip(layers, layers[1:]))
+    at_fault = [pair for pair in pairs if second.comes_too_late(*pair)]
+    found = {(neighbours_named(place, len(pairs) - 1), after.depth - before.depth, after.area - before.area)
+             for place, (before, after) in enumerate(pairs) if at_fault in ([], [(before, after)])}
+    for where, deeper, larger in product(NEIGHBOURS, UNITS, UNITS):
+        yield f"{where}, depth {UNITS[deeper]}, area {UNITS[larger]}", (where, deeper, larger) in found
+
+
+def stored_turns(fields, section):
+    """What a record, taken or refused by 31, has of layers, and with which other fields."""
+    layers, bits = second.counted(section), [bit for bit in second.LAYER_BITS if bit in fields]
+    ordered = not second.out_of_sequence(layers)
+    for name, met in (*sequence_kinds(layers), *neighbour_turns(layers)):
+        yield f"Read, layers: {name}", met
+    for name, there in (
+            ("gaps between layer bits", bits[-1] - bits[0] >= len(bits)), ("links", second.LINK_BIT in fields),
+            ("a situation", second.SITUATION_BIT in fields), ("αcc", second.ALPHA_CC_BIT in fields)):
+        yield f"Read, two or more layers in sequence with {name}", ordered and len(layers) > 1 and there
+        yield f"Read, 31 with {name}", not ordered and there
+
+
+def order_turns(section, load, refusal):
+    """'31 ... after 7': with which tests it fails together; 5 is of no layers."""
+    failing = [number for number, fails in second.tests_of_record(section, load) if fails]
+    for number in second.SECTION_TESTS:
+        if number != 5:
+            yield f"Read, {number} before 31", refusal == number and second.SEQUENCE_TEST in failing
+    for number in (*second.LOAD_TESTS, *second.LINK_TESTS):
+        yield f"Read, 31 before {number}", refusal == second.SEQUENCE_TEST and number in failing
+
+
 class Coverage:
     """Counts over every answer that was compared; verdicts and turns of each case."""
 
@@ -397,6 +470,16 @@ class Coverage:
                 counter[value] += 1
             for name, met in presence_turns(subject):
                 self.note_call(name, met)
+        if report.refusal in (0, *second.SECTION_TESTS, second.SEQUENCE_TEST):
+            self.note_sequence(report.refusal, subject)
+
+    def note_sequence(self, refusal, subject):
+        """Count what these bytes have of the sequence of layers, and 31 beside other tests."""
+        fields = second.fields_read(subject, second.bits_that_stand(subject))
+        section, load = second.meaning(fields)
+        stored = stored_turns(fields, section) if refusal in (0, second.SEQUENCE_TEST) else ()
+        for name, met in (*stored, *order_turns(section, load, refusal)):
+            self.note_call(name, met)
 
     def note_turns(self, section, load, report):
         """Count where an accepted sample stands, and what its αcc alters."""
@@ -405,7 +488,7 @@ class Coverage:
             self.note_call(name, met)
 
     def note_call(self, name, met):
-        """Count what reading a record, an αcc or one call of the library met, in whichever case."""
+        """Count what reading a record, its layers, an αcc or one call of the library met, in whichever case."""
         self.calls[name] += met
 
     def note_axial_turns(self, section, load):
@@ -454,6 +537,6 @@ class Coverage:
         yield "  " + "; ".join(self.turns)
         for name in self.turn_names():
             yield f"  {name}: " + ", ".join(str(counter[name]) for counter in self.turns.values())
-        yield "values that could be missing and are there, what αcc alters, then calls of the library"
+        yield "values that could be missing and are there, layers, what αcc alters, then calls of the library"
         for name, times in self.calls.items():
             yield f"  {name}: {times}"

@@ -1,14 +1,15 @@
-"""The same bars in another sequence: request 2 of 02.
+"""The same bars in another sequence: requests 2 and 6 of 02.
 
 "Any rearrangement of the layers of a section gives the same depth, moment,
-verdicts and refusal from the calls that find a depth, give a moment or check."
-The counted layers of a sample are rearranged, all else stays as it is, places
-beyond the count too, and the engine is asked again. What it answers of the
-sample itself is compared with second.py elsewhere.
+verdicts and refusal from the calls that find a depth, give a moment or check";
+and "where both writes succeed, equal bags of layers with equal other fields now
+give records of equal bytes". The counted layers of a sample are rearranged, all
+else stays as it is, places beyond the count too, and the engine is asked again.
+What it answers of the sample itself is compared with second.py elsewhere.
 """
 
 import second
-from met import REACHABLE
+from met import REACHABLE, sequence_kinds
 
 DRAWS = 5  # of a sequence that is neither the one in hand nor that back to front
 
@@ -72,6 +73,17 @@ def check_met(section, load, report):
             yield f"v{place} is {value}", accepted and report.verdicts[place - 1] == value
 
 
+def write_met(section, refusal):
+    """What Write a record answered of them: which layers, and with which other fields."""
+    written = refusal == 0
+    yield from refusals_met("Write a record", refusal)
+    for kind, so in sequence_kinds(second.counted(section)):
+        yield f"layers {kind}", written and so
+    yield "with links", written and second.has_links(section)
+    yield "with a situation and αcc", (
+        written and section.situation != second.PERSISTENT and section.alpha_cc != second.UNREDUCED)
+
+
 # --- the comparison -----------------------------------------------------------
 
 
@@ -81,17 +93,12 @@ def note(tally, call, found):
         tally.coverage.note_call(f"{call} of rearranged layers: {name}", met)
 
 
-def compare_rearranged(tally, rng, engine, sample, depths, shown):
-    """Find a depth, Moment at these depths and Check, of each rearrangement as of the section itself.
+def compare_asked(tally, rng, sample, asked, shown):
+    """Each call that is asked, of each rearrangement as of the section itself.
 
     What is shown of a section and a load where the answers differ is handed in.
     """
     section, load = sample.section, sample.load
-    asked = (
-        ("Find a depth", (load.n,), engine.find_depth, lambda answer: find_met(section, answer)),
-        *(("Moment at a depth", (u,), engine.moment, lambda answer, u=u: moment_met(section, u, answer)) for u in depths),
-        ("Check", (load,), engine.check, lambda answer: check_met(section, load, answer)),
-    )
     others = list(rearrangements(rng, section))
     for call, arguments, ask, met in asked if others else ():
         answer = ask(section, *arguments)
@@ -99,3 +106,20 @@ def compare_rearranged(tally, rng, engine, sample, depths, shown):
         for name, other in others:
             tally.compare(f"{call} {arguments}, layers {name}, {sample.label}", shown(other, load),
                           answer, ask(other, *arguments))
+
+
+def compare_rearranged(tally, rng, engine, sample, depths, shown):
+    """Find a depth, Moment at these depths and Check: request 2 of 02."""
+    section, load = sample.section, sample.load
+    compare_asked(tally, rng, sample, (
+        ("Find a depth", (load.n,), engine.find_depth, lambda answer: find_met(section, answer)),
+        *(("Moment at a depth", (u,), engine.moment, lambda answer, u=u: moment_met(section, u, answer)) for u in depths),
+        ("Check", (load,), engine.check, lambda answer: check_met(section, load, answer)),
+    ), shown)
+
+
+def compare_rearranged_writes(tally, rng, engine, sample, surroundings, shown):
+    """Write a record: request 6 of 02. Refusal, length, and every byte of these rooms and beside them."""
+    compare_asked(tally, rng, sample, [
+        ("Write a record", (room,), lambda section, room: engine.write(section, sample.load, surroundings[room]),
+         lambda answer: write_met(sample.section, answer[0][0])) for room in surroundings], shown)

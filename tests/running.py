@@ -1,5 +1,7 @@
-"""What the tests of the commands share: how a command is run, and section A in text and bytes: plain, with links, accidental, with αcc."""
+"""What the tests of the commands share: how a command is run, and section A in text and bytes: plain, with links, accidental, with αcc,
+with other layers."""
 
+import struct
 import subprocess
 import sys
 import tempfile
@@ -41,6 +43,20 @@ ACCIDENTAL_A_LINE = b"1 0 1250 300000000 108564 450 1500 0 0 0 0 0 2\n"
 REDUCED_A_TEXT = "300 500 30 500 0 200000000 80000 alphacc=0.85 450/1500\n"
 REDUCED_A_BYTES = bytes.fromhex("0200016F") + SECTION_A_BYTES[4:] + bytes.fromhex("0000000000000055")
 REDUCED_A_LINE = b"1 0 1598 251755182 86851 450 1500 0 0 0 0 0 2\n"
+
+
+def with_layers(*layers):
+    """The record of section A with these layers in place of its own, as they stand: (depth, area) each."""
+    bit_map = 0x6F | sum(1 << 8 + place for place in range(len(layers)))
+    return struct.pack(">I", bit_map) + SECTION_A_BYTES[4:52] + b"".join(struct.pack(">II", *layer) for layer in layers)
+
+
+# The same with αcc 1 and a layer at the top too: by rising depth, as records have their layers, and from the bottom up
+TOP_DOWN_TEXT = "300 500 30 500 0 200000000 80000 50/400 450/1500\n"
+TOP_DOWN_BYTES = with_layers((50, 400), (450, 1_500))
+TOP_DOWN_LINE = b"1 0 1052 264809313 86851 450 1500 0 0 0 0 0 2\n"
+BOTTOM_UP_TEXT = "300 500 30 500 0 200000000 80000 450/1500 50/400\n"
+BOTTOM_UP_BYTES = with_layers((450, 1_500), (50, 400))
 
 
 def command(tool, *arguments):

@@ -5,12 +5,12 @@ comparison of the two implementations decides; so with the sixth verdict and
 the cotangent. Nothing here is random.
 """
 
-from itertools import combinations, product
+from itertools import combinations, permutations, product
 from math import ceil, floor, isqrt
 from typing import NamedTuple, Optional
 
 import second
-from second import FAIL, NOT_REACHED, PASS, SIXTEEN, Links, Load, Section
+from second import ACCIDENTAL, FAIL, NOT_REACHED, PASS, SIXTEEN, Links, Load, Section
 
 I64_MIN, I64_MAX = -2**63, 2**63 - 1
 U32_MAX = 2**32 - 1
@@ -30,7 +30,7 @@ class Sample(NamedTuple):
 
 
 def record(section, load):
-    """The record that carries them, in range or not."""
+    """The record that carries them, in range or not, its layers in the writer's sequence (02, request 6)."""
     return second.assemble(second.fields_written(section, load))
 
 
@@ -183,9 +183,10 @@ def end_samples():
 
 
 # One way to fail each test of Check alone, by its number; 6 fails late and 7
-# early, so that a test which does not ask about all layers first answers 7; 29
-# keeps an N that is not 0, so that it can stand before 11 and 12; for 32 the
-# situation is 0, which is not the 1 that a missing one means, and so with 34.
+# early, so that a test which does not ask about all layers first answers 7, and
+# both leave layers in sequence that were so (02, request 6); 29 keeps an N that is
+# not 0, so that it can stand before 11 and 12; for 32 the situation is 0, which is
+# not the 1 that a missing one means, and so with 34.
 FAILINGS = {
     1: lambda section, load: (section._replace(width=49), load),
     2: lambda section, load: (section._replace(height=2_001), load),
@@ -194,7 +195,7 @@ FAILINGS = {
     32: lambda section, load: (section._replace(situation=0), load),
     34: lambda section, load: (section._replace(alpha_cc=0), load),
     5: lambda section, load: (section._replace(count=0), load),
-    6: lambda section, load: (with_layer(section, 15, depth=0), load),
+    6: lambda section, load: (with_layer(section, 15, depth=U32_MAX), load),
     7: lambda section, load: (with_layer(section, 0, area=0), load),
     8: lambda section, load: (section, load._replace(n=N_MOST + 1)),
     9: lambda section, load: (section, load._replace(m=-M_MOST - 1)),
@@ -498,6 +499,73 @@ def halving_samples():
                     yield Sample(f"h {height}, N {n} about depth {u}", section, Load(n, 0, 0), 0 if n >= least else 11)
 
 
+# --- the sequence of layers on disk: request 6 of 02 ---------------------------
+
+
+class Typed(NamedTuple):
+    """A section whose layers stand in some sequence, and whether the reader takes it."""
+
+    label: str
+    section: Section
+    taken: bool
+
+
+STEPS = second.section_of(400, 700, 40, 500, [(50 + 40 * place, 300) for place in range(second.PLACES)])
+
+# As the writer has them: depths that rise while areas fall, equal depths, a layer twice, and both of these.
+BAGS = (
+    ((50, 900), (350, 600), (640, 300)),
+    ((50, 600), (350, 599), (350, 600)),
+    ((50, 600), (350, 600), (350, 600)),
+    ((50, 300), (50, 301), (350, 600), (350, 600)),
+)
+
+
+def beside_neighbour(section):
+    """A layer a millimetre less deep than the one before it, as deep and deeper, each with a unit less, as much and a
+    unit more of area: the second layer, one in the middle, and the last."""
+    for place in sorted({1, section.count // 2, section.count - 1}):
+        before = section.layers[place - 1]
+        for deeper, larger in product((-1, 0, 1), repeat=2):
+            moved = with_layer(section, place, depth=before.depth + deeper, area=before.area + larger)
+            yield Typed(f"layer {place} of {section.count} by {deeper} mm and {larger} mm² from the one before", moved,
+                        deeper > 0 or (deeper == 0 and larger >= 0))
+
+
+def sixteen_typed():
+    """Sixteen layers moved about, and sixteen equal ones."""
+    def typed(label, layers, taken=False):
+        return Typed(f"sixteen layers, {label}", SIXTEEN._replace(layers=tuple(layers)), taken)
+
+    first, *between, last = SIXTEEN.layers
+    yield typed("as they are", SIXTEEN.layers, True)
+    yield typed("all equal", [first] * second.PLACES, True)
+    yield typed("back to front", SIXTEEN.layers[::-1])
+    yield typed("the first and the last swapped", (last, *between, first))
+    yield typed("the first one last", (*between, last, first))
+    yield typed("the last one first", (last, first, *between))
+    for place in range(second.PLACES - 1):
+        yield typed(f"{place} and {place + 1} swapped", second.swapped_at(SIXTEEN, place).layers)
+
+
+def typed_sections():
+    """Neighbours at both sides of 31, also with links, situation and αcc; a few layers in each sequence; sixteen."""
+    for count in (2, 3, 5, second.PLACES):
+        few = STEPS._replace(count=count)
+        yield from beside_neighbour(few)
+        yield from beside_neighbour(linked(few)._replace(situation=ACCIDENTAL, alpha_cc=85))
+    for bag in BAGS:
+        for layers in dict.fromkeys(permutations(bag)):
+            yield Typed(f"layers {layers}", second.section_of(400, 700, 40, 500, layers), layers == bag)
+    yield from sixteen_typed()
+
+
+def sequence_samples():
+    """'calls by value take any sequence as before', and what is written has but one."""
+    for typed in typed_sections():
+        yield Sample(typed.label, typed.section, UNDER_LOAD, 0)
+
+
 def all_samples():
     """Every fixed sample of this file."""
     for group in (field_samples, class_samples, count_samples, layer_samples, load_samples,
@@ -505,5 +573,5 @@ def all_samples():
                   bending_turn_samples, shear_turn_samples, steel_turn_samples,
                   size_factor_samples, grade_samples, field_presence_samples, link_range_samples,
                   presence_samples, cotangent_samples, tie_samples, link_turn_samples, exact_ratio_samples,
-                  column_depth_samples, column_grade_samples, halving_samples):
+                  column_depth_samples, column_grade_samples, halving_samples, sequence_samples):
         yield from group()

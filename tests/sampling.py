@@ -4,7 +4,8 @@ N is taken at the internal force of a whole depth, M at the moment resistance
 of either face, V at the shear resistance, each a unit to either side, and areas
 at the limits of 9.2.1.1. Links have V, spacing or ratio at the turn of verdict
 six, or two cotangents that resist the same. Columns have N at the force of a
-depth beyond 10h, or where 12 turns. The generator is handed in, so a seed
+depth beyond 10h, or where 12 turns. Their records are in sequence, but for those
+of the runs in any sequence, where 31 turns. The generator is handed in, so a seed
 repeats a run.
 """
 
@@ -12,10 +13,10 @@ from math import ceil, floor
 
 import second
 from damaged import Run, fields_of
-from samples import (FAILINGS, I64_MAX, I64_MIN, M_MOST, N_MOST, Sample, faces_of, last_force, last_of_both,
+from samples import (FAILINGS, I64_MAX, I64_MIN, M_MOST, N_MOST, U32_MAX, Sample, faces_of, last_force, last_of_both,
                      last_spacing, last_up_to_10h, least_link_area, linked, passes, record, with_layer)
-from second import (ACCIDENTAL, ALPHA_CC_BIT, FAIL, LINK_BIT, NOT_REACHED, PERSISTENT, SITUATION_BIT, UNREDUCED,
-                    Layer, Links, Load)
+from second import (ACCIDENTAL, ALPHA_CC_BIT, FAIL, LAYER_BITS, LINK_BIT, NOT_REACHED, PERSISTENT, SITUATION_BIT,
+                    UNREDUCED, Layer, Links, Load)
 
 
 def edged(rng, least, most):
@@ -39,12 +40,14 @@ def held(number, least, most):
 
 
 def random_layers(rng, height):
-    """Mostly few layers; depths anywhere, now and then equal."""
+    """Mostly few layers; depths anywhere, now and then equal, or some layers equal."""
     count = rng.choice((1, 1, 1, 2, 2, 3, 4, rng.randint(1, 16), 16))
     most = rng.choice((50, 500, 3_000, 20_000))
     layers = [Layer(edged(rng, 1, height - 1), edged(rng, 1, most)) for _ in range(count)]
     if rng.random() < 0.1:
         layers = [layer._replace(depth=layers[0].depth) for layer in layers]
+    if rng.random() < 0.1:
+        layers = rng.choices(layers, k=count)
     return layers
 
 
@@ -330,20 +333,23 @@ def random_samples(rng, number):
 # --- records and runs -------------------------------------------------------
 
 
-def spread_record(rng, section, load):
+def spread(rng, data):
     """The record with gaps between its layer bits, and with values that could be missing."""
-    fields = fields_of(record(section, load))
-    layers = [fields.pop(bit) for bit in sorted(fields) if bit in second.LAYER_BITS]
-    bits = sorted(rng.sample(second.LAYER_BITS, len(layers)))
-    for field in second.OPTIONAL_FIELDS:
-        if rng.random() < 0.5:
-            fields.setdefault(field.bit, second.signed_bytes(field.missing))
-    return second.assemble({**fields, **dict(zip(bits, layers))})
+    bits = second.bits_that_stand(data)
+    there = [bit for bit in bits if bit in LAYER_BITS]
+    added = {field.name: field.missing for field in second.OPTIONAL_FIELDS
+             if field.bit not in bits and rng.random() < 0.5}
+    return second.with_signed(second.at_bits(data, *sorted(rng.sample(LAYER_BITS, len(there)))), **added)
+
+
+def any_layout(rng, data):
+    """The record, or one that means the same."""
+    return rng.choice((data, spread(rng, data)))
 
 
 def any_record(rng, section, load):
     """The record as the writer writes it, or one that means the same."""
-    return rng.choice((record, lambda *given: spread_record(rng, *given)))(section, load)
+    return any_layout(rng, record(section, load))
 
 
 def damaged_run(rng, records):
@@ -392,3 +398,36 @@ def damaged_runs(rng, samples, number):
         chosen = rng.choices(samples, k=rng.randint(3, 6))
         records = [any_record(rng, sample.section, sample.load) for sample in chosen]
         yield rng.choice((damaged_run, bit_turned_run))(rng, records)
+
+
+# --- runs in any sequence: request 6 of 02 ------------------------------------
+
+
+def shuffled(rng, section):
+    """Its layers in any sequence."""
+    return section._replace(layers=tuple(rng.sample(second.counted(section), section.count)))
+
+
+def but_for_two(rng, section):
+    """Its layers in sequence, but for two neighbours."""
+    return second.swapped_at(second.in_sequence(section), rng.randrange(section.count - 1))
+
+
+def with_neighbour(rng, section):
+    """Its layers in sequence, but for one that is beside the one before it in depth and in area."""
+    ordered, place = second.in_sequence(section), rng.randrange(1, section.count)
+    depth, area = (held(beside(rng, value), 0, U32_MAX) for value in ordered.layers[place - 1])
+    return with_layer(ordered, place, depth=depth, area=area)
+
+
+def in_any_sequence(rng, section):
+    """The section with its layers moved in one of these ways, or the only one as it is."""
+    return rng.choice((shuffled, but_for_two, with_neighbour))(rng, section) if section.count > 1 else section
+
+
+def sequence_runs(rng, samples, number):
+    """Runs over ten to twenty of the samples each, their layers laid out in any sequence."""
+    for _ in range(number):
+        chosen = rng.choices(samples, k=rng.randint(10, 20))
+        records = [second.laid_out(in_any_sequence(rng, sample.section), sample.load) for sample in chosen]
+        yield Run("in any sequence at random", b"".join(any_layout(rng, data) for data in records))

@@ -11,16 +11,16 @@ Run by itself it answers every row of "Reference cases" and prints 'ok' or
 'DIFFERS' for each; the expected values there are the papers', and the project's
 own for the section that no M suits, for the links, for the accidental situation,
 for αcc below 1, for most depths beyond 10h, for the trials of the halving rule, some
-of which are worked out by hand, and for the same bars in another sequence. Both
-searches answer beside the plain look at every depth, for random sections whose seed
-is printed.
+of which are worked out by hand, for the same bars in another sequence and for the one
+sequence of layers on disk. Both searches answer beside the plain look at every depth,
+for random sections whose seed is printed.
 """
 
 import random
 import sys
 from fractions import Fraction
 from functools import lru_cache
-from itertools import permutations
+from itertools import combinations, permutations
 from math import ceil, floor  # exact on fractions, and floor is "toward minus infinity"
 from typing import NamedTuple, Optional
 
@@ -878,10 +878,10 @@ def numbers_of(section, load):
     return {field.bit: named[field.name] for field in FIELDS}
 
 
-def fields_written(section, load):
+def fields_as_given(section, load):
     """'The writer omits a zero N, M or V and uses the lowest layer bits'; it 'sets
     bit 7 when they are present' (02, request 3), 'omits 1' of the situation (request
-    8) and 'omits 100' of αcc (request 10)."""
+    8) and 'omits 100' of αcc (request 10). The layers are in the section's own sequence."""
     numbers = numbers_of(section, load)
     fields = {field.bit: signed_bytes(numbers[field.bit]) for field in FIELDS
               if numbers[field.bit] != field.missing}
@@ -890,6 +890,18 @@ def fields_written(section, load):
     for bit, layer in zip(LAYER_BITS, counted(section)):
         fields[bit] = layer_bytes(layer)
     return fields
+
+
+def in_sequence(section):
+    """'by rising depth, and equal depths by rising area' (02, request 6): a copy of the
+    section with its counted layers so ordered."""
+    ordered = sorted(counted(section), key=lambda layer: (layer.depth, layer.area))
+    return section._replace(layers=(*ordered, *section.layers[section.count:]))
+
+
+def fields_written(section, load):
+    """'The writer now writes layers' in that sequence (02, request 6)."""
+    return fields_as_given(in_sequence(section), load)
 
 
 def fields_read(data, bits):
@@ -918,12 +930,13 @@ LOAD_TESTS = (8, 9, 10)
 LINK_TESTS = (27, 28, 29)  # of request 3 of 02, "directly after 10"
 FACE_TESTS = (11, 12)
 MAP_TESTS = (20, 21, 22, 23)
+SEQUENCE_TEST = 31  # of request 6 of 02, "in the reader only, after 7"
 
 SEQUENCES = {
     "Find a depth": (*SECTION_TESTS, 8, *FACE_TESTS),
     "Moment at a depth": (*SECTION_TESTS, 13),
     "Check": (*SECTION_TESTS, *LOAD_TESTS, *LINK_TESTS, *FACE_TESTS),
-    "Read a record": (*MAP_TESTS, *SECTION_TESTS, *LOAD_TESTS, *LINK_TESTS),
+    "Read a record": (*MAP_TESTS, *SECTION_TESTS, SEQUENCE_TEST, *LOAD_TESTS, *LINK_TESTS),
     "Write a record": (*SECTION_TESTS, *LOAD_TESTS, *LINK_TESTS, 25),
     "List program": (26,),
 }
@@ -982,8 +995,25 @@ def link_tests(section, load):
 
 
 def tests_by_value(section, load):
-    """What Check, reader and writer all ask: the section, load and link tests."""
+    """What Check and writer both ask: the section, load and link tests."""
     return section_tests(section) + load_tests(load) + link_tests(section, load)
+
+
+def comes_too_late(before, after):
+    """A layer whose follower is less deep, or as deep and of a lesser area; of equal layers
+    neither comes too late."""
+    return after.depth < before.depth or (after.depth == before.depth and after.area < before.area)
+
+
+def out_of_sequence(layers):
+    """'31 layers of a record not in that sequence' (02, request 6)."""
+    return any(comes_too_late(before, after) for before, after in zip(layers, layers[1:]))
+
+
+def tests_of_record(section, load):
+    """What the reader asks of a record's meaning: 31 'in the reader only, after 7'."""
+    return (section_tests(section) + ((SEQUENCE_TEST, out_of_sequence(counted(section))),)
+            + load_tests(load) + link_tests(section, load))
 
 
 def below_range(seen, n):
@@ -1062,7 +1092,7 @@ def refused_reading(number, length):
 
 
 def read_record(data):
-    """Read a record: 20, 21, 22, 23, then the section, load and link tests."""
+    """Read a record: 20, 21, 22, 23, then the section tests, 31, the load and link tests."""
     if len(data) < 4:
         return refused_reading(20, 0)
     bits = bits_that_stand(data)
@@ -1075,7 +1105,7 @@ def read_record(data):
     if refusal:
         return refused_reading(refusal, length)
     section, load = meaning(fields_read(data, bits))
-    refusal = first_failing(tests_by_value(section, load))
+    refusal = first_failing(tests_of_record(section, load))
     if refusal:
         return refused_reading(refusal, length)
     return Reading(0, length, section, load)
@@ -1186,7 +1216,19 @@ BOTH_EXAMPLE = bytes.fromhex(  # 2 at bit 24, and 85 at bit 25 "after the situat
     "000000000BEBC200" "0000000000013880" "000001C2000005DC" "0000000000000002" "0000000000000055")
 BOTH_LIST = ("rec ref u mrd vrd dm as v1 v2 v3 v4 v5 v6\n"
              "1 0 1470 293342640 108564 450 1500 0 0 0 0 0 2\n")
-EXAMPLE_LOAD = Load(0, 200_000_000, 80_000)  # of all five examples
+TWO_LAYERS = section_of(300, 500, 30, 500, [(50, 600), (450, 1_500)])  # A and a layer at the top
+TWO_EXAMPLE = bytes.fromhex(  # the first with both layers, the lesser depth at bit 8 (02, request 6)
+    "0000036F" "000000000000012C" "00000000000001F4" "000000000000001E" "00000000000001F4"
+    "000000000BEBC200" "0000000000013880" "0000003200000258" "000001C2000005DC")
+SWAPPED_EXAMPLE = bytes.fromhex(  # and out of sequence
+    "0000036F" "000000000000012C" "00000000000001F4" "000000000000001E" "00000000000001F4"
+    "000000000BEBC200" "0000000000013880" "000001C2000005DC" "0000003200000258")
+# By hand: 480u + 420,000·(u−500)/u − 652,170 is −77.3 at 946 and 637.1 at 947. At 946 the concrete has
+# 454,080·212.16, the layer at the top 420,000·446/946·200 and the other 652,170·200, each rounded down:
+# 96,337,612 + 39,602,536 + 130,434,000. As, dm and VRd,c are those of A.
+TWO_LIST = ("rec ref u mrd vrd dm as v1 v2 v3 v4 v5 v6\n"
+            "1 0 946 266374148 86851 450 1500 0 0 0 0 0 2\n")
+EXAMPLE_LOAD = Load(0, 200_000_000, 80_000)  # of all seven examples
 BEYOND_EXAMPLE = bytes.fromhex(  # A under N 2,505,001 alone (02, request 11)
     "0000011F" "000000000000012C" "00000000000001F4" "000000000000001E"
     "00000000000001F4" "0000000000263929" "000001C2000005DC")
@@ -1969,6 +2011,184 @@ def rearranged_rows():
     ]
 
 
+def laid_out(section, load=NO_LOAD):
+    """The record that has the layers in the section's own sequence, in range or not."""
+    return assemble(fields_as_given(section, load))
+
+
+def reading_of(*layers):
+    """Refusal and length of A with these layers in place of its own, laid out so."""
+    return read_record(laid_out(section_of(300, 500, 30, 500, layers)))[:2]
+
+
+def writing_of(section, load, room=LONGEST_RECORD):
+    """What the writer answers, and the buffer of ones that it was lent."""
+    buffer = bytearray(b"\xff" * room)
+    return write_record(section, load, buffer), bytes(buffer)
+
+
+def at_bits(record, *bits):
+    """The record with its layers at these bits, as many as there are, in the sequence that it has."""
+    fields = fields_read(record, bits_that_stand(record))
+    layers = [fields.pop(bit) for bit in LAYER_BITS if bit in fields]
+    return assemble({**fields, **dict(zip(bits, layers))})
+
+
+def swapped_at(section, place):
+    """The section with the layer of this place and the next exchanged."""
+    layers = list(section.layers)
+    layers[place:place + 2] = layers[place + 1], layers[place]
+    return section._replace(layers=tuple(layers))
+
+
+def stored_sequence_rows():
+    """Request 6 of 02: 'the reader takes only records so ordered'."""
+    def in_each_sequence(*layers):
+        return [reading_of(*typed)[0] for typed in permutations(layers)]
+
+    top, low, more = (50, 402), (450, 942), (450, 943)
+    return [
+        ("two layers in sequence", reading_of((50, 600), (450, 1_500)), (0, 52)),
+        ("31: two layers swapped", reading_of((450, 1_500), (50, 600)), (31, 52)),
+        ("31: a millimetre less deep, whatever the area",
+         [reading_of((450, 600), (449, area))[0] for area in (599, 600, 601)], [31, 31, 31]),
+        ("31: as deep and a unit less; equal layers and a unit more are taken",
+         [reading_of((450, 600), (450, area))[0] for area in (599, 600, 601)], [31, 0, 0]),
+        ("a millimetre deeper, whatever the area",
+         [reading_of((450, 600), (451, area))[0] for area in (599, 600, 601)], [0, 0, 0]),
+        ("one layer, and the least and the largest of all", [reading_of(*layers)[0] for layers in (
+            [low], [(1, 1), (499, 20_000)], [(1, 20_000), (499, 1)], [(499, 1), (1, 20_000)])], [0, 0, 0, 31]),
+        ("three layers: one sequence of six", in_each_sequence(*THREE_BARS), [0, 31, 31, 31, 31, 31]),
+        ("two equal layers of three: either of both first", in_each_sequence(top, top, low), [0, 31, 0, 31, 31, 31]),
+        ("two equal depths of three", in_each_sequence(top, low, more), [0, 31, 31, 31, 31, 31]),
+        ("three equal layers", in_each_sequence(low, low, low), [0] * 6),
+        ("31: a refused reading has zeros and its length", read_record(SWAPPED_EXAMPLE),
+         (31, 68, (0, 0, 0, 0, 0, 0, 0, ((0, 0),) * PLACES, (0, 0, 0)), (0, 0, 0))),
+        ("layer bits with gaps: by rising bit",
+         [read_record(at_bits(record, *bits))[:2] for record in (TWO_EXAMPLE, SWAPPED_EXAMPLE)
+          for bits in ((8, 9), (9, 23), (22, 23), (8, 23))], [(0, 68)] * 4 + [(31, 68)] * 4),
+        ("what a record with gaps means", read_record(at_bits(TWO_EXAMPLE, 9, 23))[2:], (TWO_LAYERS, EXAMPLE_LOAD)),
+    ]
+
+
+def stored_sixteen_rows():
+    """Request 6 of 02: sixteen layers, and the longest record."""
+    def reading(section, load=NO_LOAD, **present):
+        return read_record(with_signed(laid_out(section, load), **present))[:2]
+
+    full = SIXTEEN._replace(links=links_of(101, 200), situation=ACCIDENTAL, alpha_cc=85)
+    load = Load(0, -1, 1)
+    return [
+        ("sixteen layers in sequence", reading(SIXTEEN), (0, 164)),
+        ("31: each two neighbours of sixteen swapped",
+         [reading(swapped_at(SIXTEEN, place)) for place in range(PLACES - 1)], [(31, 164)] * 15),
+        ("31: sixteen layers back to front", reading(SIXTEEN._replace(layers=SIXTEEN.layers[::-1])), (31, 164)),
+        ("sixteen equal layers", reading_of(*[(450, 100)] * PLACES), (0, 164)),
+        ("the longest record in sequence", reading(full, load, n=0), (0, 212)),
+        ("31: the longest with its first or last two swapped",
+         [reading(swapped_at(full, place), load, n=0) for place in (0, 14)], [(31, 212)] * 2),
+        ("sixteen layers back to front with every other field: written and read back in sequence",
+         read_record(writing_of(full._replace(layers=full.layers[::-1]), load)[1]), (0, 204, full, load)),
+    ]
+
+
+def stored_refusal_rows():
+    """Request 6 of 02: 31 'in the reader only, after 7'."""
+    def readings(section, changes):
+        return [read_record(laid_out(section._replace(**change), load))[0] for change, load in changes]
+
+    def with_layers(*bags):
+        return [reading_of(*layers)[0] for layers in bags]
+
+    def listed(section):
+        records = b"".join(laid_out(section, Load(n, 0, 0)) for n in (-most, most))
+        return [report.refusal for _, _, report in list_answers(records)]
+
+    swapped, most = swapped_at(TWO_LAYERS, 0), 500_000_000
+    earlier = {1: {"width": 49}, 2: {"height": 49}, 3: {"fck": 31}, 4: {"fyk": 399}, 32: {"situation": 3},
+               34: {"alpha_cc": 101}, 5: {"count": 0}}
+    later = [({}, Load(most + 1, 0, 0)), ({}, Load(0, -10**12 - 1, 0)), ({}, Load(0, 0, most + 1)),
+             ({"links": links_of(0, 200)}, NO_LOAD), ({"links": links_of(101, 24)}, NO_LOAD),
+             ({"links": links_of(101, 200)}, Load(1, 0, 0))]
+    headless = {bit: field for bit, field in fields_as_given(swapped, NO_LOAD).items() if bit != 0}
+    return [
+        ("1, 2, 3, 4, 32 and 34 before 31, and 5 of no layer",
+         readings(swapped, [(change, NO_LOAD) for change in earlier.values()]), list(earlier)),
+        ("6 before 31", with_layers(
+            [(450, 1_500), (0, 600)], [(500, 1_500), (50, 600)], [(0, 1), (450, 1_500), (50, 600)],
+            [(450, 1_500), (50, 600), (500, 1)]), [6] * 4),
+        ("7 before 31", with_layers(
+            [(450, 0), (50, 600)], [(450, 20_001), (50, 600)], [(450, 1_500), (450, 0)], [(50, 20_001), (50, 600)],
+            [(450, 1_500), (50, 600), (499, 0)]), [7] * 5),
+        ("31 before 8, 9, 10, 27, 28 and 29", readings(swapped, later), [31] * 6),
+        ("the same in sequence", readings(TWO_LAYERS, later), [8, 9, 10, 27, 28, 29]),
+        ("31 before 11 and 12 in a list", listed(swapped), [31, 31]),
+        ("the same in sequence", listed(TWO_LAYERS), [11, 12]),
+        ("20, 21, 22 and 23 before 31", [read_record(record)[:2] for record in (
+            SWAPPED_EXAMPLE[:3], b"\4" + SWAPPED_EXAMPLE[1:] + bytes(8), SWAPPED_EXAMPLE[:-1], assemble(headless))],
+         [(20, 0), (21, 0), (22, 0), (23, 44)]),
+        ("no 31 by value", refusals_of_calls(swapped), {0}),
+    ]
+
+
+def stored_write_rows():
+    """Request 6 of 02: 'equal bags of layers with equal other fields now give records of equal bytes'."""
+    def of_bag(bag):
+        return {writing_of(section_of(300, 500, 30, 500, typed), NO_LOAD, 60) for typed in permutations(bag)}
+
+    def record_of(bag):
+        return laid_out(section_of(300, 500, 30, 500, bag))
+
+    swapped = swapped_at(TWO_LAYERS, 0)
+    both, rest = (TWO_LAYERS, swapped), b"\xff" * (LONGEST_RECORD - 68)
+    bags = (THREE_BARS, ((50, 942), (400, 628), (450, 402)), ((50, 402), (50, 402), (450, 942)),
+            ((50, 402), (450, 942), (450, 943)))
+    return [
+        ("A and a layer 50/600 in both sequences: the writer's bytes",
+         [writing_of(section, EXAMPLE_LOAD) for section in both], [((0, 68), TWO_EXAMPLE + rest)] * 2),
+        ("the same read back: the layer of 50 first",
+         [read_record(writing_of(section, EXAMPLE_LOAD)[1]) for section in both],
+         [(0, 68, TWO_LAYERS, EXAMPLE_LOAD)] * 2),
+        ("the same: what it prints", list_text(TWO_EXAMPLE), TWO_LIST),
+        ("the same into 67 and 68 bytes", [writing_of(swapped, EXAMPLE_LOAD, room) for room in (67, 68)],
+         [((25, 0), b"\xff" * 67), ((0, 68), TWO_EXAMPLE)]),
+        ("places beyond the count have no part",
+         writing_of(swapped._replace(layers=counted(swapped) + (Layer(1, 1),) * 14), EXAMPLE_LOAD, 68),
+         ((0, 68), TWO_EXAMPLE)),
+        ("absent links by any numbers, present ones by any number but 0", [
+            {writing_of(section._replace(links=Links(*links)), EXAMPLE_LOAD, 76) for section in both for links in same}
+            for same in (((0, 0, 0), (0, 101, 200), (0, 5_001, 24)), ((1, 101, 200), (2**63, 101, 200)))],
+         [{((0, 68), TWO_EXAMPLE + b"\xff" * 8)}, {((0, 76), laid_out(with_links(TWO_LAYERS, 101, 200), EXAMPLE_LOAD))}]),
+        ("three layers in each sequence: the bytes of the bag as it stands here",
+         [of_bag(bag) for bag in bags], [{((0, 60), record_of(bag))} for bag in bags]),
+        ("sixteen layers back to front: the bytes of those in sequence", writing_of(
+            SIXTEEN._replace(layers=SIXTEEN.layers[::-1]), NO_LOAD, 164), ((0, 164), laid_out(SIXTEEN))),
+        ("a list goes on after 31", list_text(EXAMPLE + SWAPPED_EXAMPLE + TWO_EXAMPLE),
+         EXAMPLE_LIST + "2 31 0 0 0 0 0 2 2 2 2 2 2\n" + "3 0 946 266374148 86851 450 1500 0 0 0 0 0 2\n"),
+    ]
+
+
+def random_bag(rng):
+    """Layers of few depths and areas, so that many are equal."""
+    return tuple(Layer(rng.randint(1, 4), rng.randint(1, 3)) for _ in range(rng.randint(1, 6)))
+
+
+def stored_random_rows(rng):
+    """Request 6 of 02: the sequence that the writer makes and the one that the reader asks for, of random layers."""
+    bags = [random_bag(rng) for _ in range(2_000)]
+    refused_bags = [bag for bag in bags if out_of_sequence(bag)]
+    made = {bag: counted(in_sequence(section_of(300, 500, 30, 500, bag))) for bag in bags}
+    print(f"bags of layers at random: in sequence {len(bags) - len(refused_bags)}, out of it {len(refused_bags)}")
+    return [
+        ("neighbours in sequence: so are any two of them", refused_bags,
+         [bag for bag in bags if any(comes_too_late(*two) for two in combinations(bag, 2))]),
+        ("what is written is in sequence", [bag for bag in bags if out_of_sequence(made[bag])], []),
+        ("it has each layer as often", [bag for bag in bags if any(
+            bag.count(layer) != made[bag].count(layer) for layer in (*bag, *made[bag]))], []),
+        ("what was in sequence stays as it was", [bag for bag in bags if made[bag] != bag], refused_bags),
+    ]
+
+
 def block_rows():
     """Ticket 5: 80 times the depth factor and 1,000 times the strength factor of each class."""
     above_50 = {55: (63, 975), 60: (62, 950), 70: (60, 900), 80: (58, 850), 90: (56, 800)}
@@ -2004,12 +2224,17 @@ def sequence_rows():
     load = numbers(load_tests(NO_LOAD))
     links = numbers(link_tests(SECTION_A, NO_LOAD))
     face, top = numbers(face_tests(SECTION_A, NO_LOAD)), numbers(top_tests(SECTION_A, 0))
+    of_record = numbers(tests_of_record(SECTION_A, NO_LOAD))
     return [
         ("section tests", section, (1, 2, 3, 4, 32, 34, 5, 6, 7)),
         ("load tests", load, (8, 9, 10)),
         ("link tests", links, (27, 28, 29)),
         ("tests of Check", section + load + links + face, SEQUENCES["Check"]),
         ("tests of Find a depth", section + numbers(axial_test(0)) + top, SEQUENCES["Find a depth"]),
+        ("tests of Read a record", MAP_TESTS + of_record, SEQUENCES["Read a record"]),
+        ("tests of Read a record, written out", SEQUENCES["Read a record"],
+         (20, 21, 22, 23, 1, 2, 3, 4, 32, 34, 5, 6, 7, 31, 8, 9, 10, 27, 28, 29)),
+        ("tests of Write a record", numbers(tests_by_value(SECTION_A, NO_LOAD)) + (25,), SEQUENCES["Write a record"]),
         ("bits of no field", FORBIDDEN_BITS, (26, 27, 28, 29, 30, 31)),
         ("bytes of the longest record", LONGEST_RECORD, 212),
     ]
@@ -2029,7 +2254,8 @@ def main():
             + both_record_rows() + strain_line_rows() + beyond_rows() + beyond_face_rows() + beyond_case_rows()
             + beyond_shape_rows() + beyond_class_rows() + search_rows(random.Random(seed))
             + trial_rows() + trial_refusal_rows() + trial_count_rows() + halving_rows(random.Random(seed))
-            + rearranged_rows()
+            + rearranged_rows() + stored_sequence_rows() + stored_sixteen_rows() + stored_refusal_rows()
+            + stored_write_rows() + stored_random_rows(random.Random(seed))
             + block_rows() + refusal_rows() + sequence_rows())
     for name, computed, expected in rows:
         same = computed == expected

@@ -5,9 +5,9 @@ import shutil
 import stat
 import subprocess
 
-from running import (ACCIDENTAL_A_BYTES, ACCIDENTAL_A_LINE, ACCIDENTAL_A_TEXT, EXAMPLES, FIRST_LINE, LINKED_A_TEXT, PATIENCE,
-                     REDUCED_A_BYTES, REDUCED_A_LINE, REDUCED_A_TEXT, REFUSED, SECTION_A_BYTES, SECTION_A_LINE, SECTION_A_TEXT, TOP,
-                     CommandTest, run)
+from running import (ACCIDENTAL_A_BYTES, ACCIDENTAL_A_LINE, ACCIDENTAL_A_TEXT, BOTTOM_UP_BYTES, BOTTOM_UP_TEXT, EXAMPLES, FIRST_LINE,
+                     LINKED_A_TEXT, PATIENCE, REDUCED_A_BYTES, REDUCED_A_LINE, REDUCED_A_TEXT, REFUSED, SECTION_A_BYTES, SECTION_A_LINE,
+                     SECTION_A_TEXT, TOP, TOP_DOWN_BYTES, TOP_DOWN_LINE, CommandTest, run, with_layers)
 
 LIST_A = FIRST_LINE + SECTION_A_LINE
 
@@ -82,6 +82,22 @@ class Taken(CommandTest):
             for other in others:
                 text = given.replace(word, other)
                 self.assertEqual(run("check-list", "--text", given=text), (0, FIRST_LINE + b"1 " + number + REFUSED, ""))
+
+    def test_text_has_its_layers_in_any_sequence(self):
+        self.assertEqual(run("check-list", "--text", given=BOTTOM_UP_TEXT), (0, FIRST_LINE + TOP_DOWN_LINE, ""))
+
+    def test_a_record_out_of_sequence_is_refused_and_the_list_goes_on(self):
+        answered = FIRST_LINE + b"1 31" + REFUSED + b"2" + SECTION_A_LINE[1:]
+        for record in (BOTTOM_UP_BYTES, with_layers((450, 800), (450, 700)), with_layers((50, 400), (450, 750), (449, 750))):
+            self.assertEqual(run("check-list", given=record + SECTION_A_BYTES), (0, answered, ""))
+
+    def test_equal_depths_by_rising_area_and_equal_layers_are_in_sequence(self):
+        for layers in (((450, 700), (450, 800)), ((450, 750), (450, 750))):
+            self.assertEqual(run("check-list", given=with_layers(*layers)), (0, LIST_A, ""))
+
+    def test_what_sort_records_wrote_is_read(self):
+        for record in (BOTTOM_UP_BYTES, TOP_DOWN_BYTES):
+            self.assertEqual(run("check-list", given=run("sort-records", given=record)[1]), (0, FIRST_LINE + TOP_DOWN_LINE, ""))
 
     def test_bit_26_ends_the_list(self):
         spoiled = b"\4" + REDUCED_A_BYTES[1:]

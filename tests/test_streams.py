@@ -53,7 +53,8 @@ class Output(StreamTest):
 
     def test_a_full_device(self):
         for tool, given in (("check-list", self.records()), ("make-record", self.text()), ("show-record", self.records()),
-                            ("make-record", "--help"), ("check-list", "--help")):
+                            ("sort-records", self.records()), ("make-record", "--help"), ("check-list", "--help"),
+                            ("sort-records", "--help")):
             with self.subTest(tool=tool, given=given):
                 self.failed(redirected(">/dev/full", tool, given), "written")
 
@@ -65,12 +66,13 @@ class Output(StreamTest):
             self.failed(run("make-record", self.text(), stdout=full, env=UNBUFFERED), "No space left")
 
     def test_a_closed_stream(self):
-        for tool, given in (("check-list", self.records()), ("make-record", self.text()), ("show-record", self.records())):
+        for tool, given in (("check-list", self.records()), ("make-record", self.text()), ("show-record", self.records()),
+                            ("sort-records", self.records())):
             with self.subTest(tool=tool):
                 self.failed(redirected(">&-", tool, given), "standard output is closed")
 
     def test_all_streams_closed(self):
-        for tool in ("check-list", "make-record", "show-record"):
+        for tool in ("check-list", "make-record", "show-record", "sort-records"):
             self.failed(redirected("<&- >&- 2>&-", tool), "")
 
     def test_no_message_goes_to_another_file(self):
@@ -81,7 +83,8 @@ class Output(StreamTest):
 
     def test_a_file_that_ends_early(self):
         for tool, given, env in (("check-list", self.records(), None), ("make-record", self.text(), None),
-                                 ("make-record", self.text(), UNBUFFERED), ("show-record", self.records(), None)):
+                                 ("make-record", self.text(), UNBUFFERED), ("show-record", self.records(), None),
+                                 ("sort-records", self.records(), None)):
             with self.subTest(tool=tool, unbuffered=env is UNBUFFERED), open(self.folder / "cut", "wb") as cut:
                 self.failed(run(tool, given, stdout=cut, env=env, preexec_fn=limited), "not whole")
                 self.assertLessEqual(os.fstat(cut.fileno()).st_size, LIMIT)
@@ -108,7 +111,8 @@ class Output(StreamTest):
         self.assertEqual(process.returncode, 0)
 
     def test_a_reader_that_stops_is_no_fault(self):
-        for tool, given in (("check-list", self.records()), ("make-record", self.text(1_000)), ("show-record", self.records())):
+        for tool, given in (("check-list", self.records()), ("make-record", self.text(1_000)), ("show-record", self.records()),
+                            ("sort-records", self.records())):
             with subprocess.Popen(command(tool, given), stdout=subprocess.PIPE, stderr=subprocess.PIPE, pipesize=PIPE_BYTES) as process:
                 process.stdout.readline(100)
                 process.stdout.close()
@@ -125,16 +129,17 @@ class Input(StreamTest):
     """Standard input."""
 
     def test_a_directory(self):
-        for tool in ("check-list", "make-record", "show-record"):
+        for tool in ("check-list", "make-record", "show-record", "sort-records"):
             with self.subTest(tool=tool):
                 self.failed(redirected("</", tool), "directory")
 
     def test_a_directory_by_its_name(self):
         self.failed(run("check-list", "/"), "standard input could not be read")
-        self.failed(run("make-record", "/"), "Is a directory")
+        for tool in ("make-record", "sort-records"):
+            self.failed(run(tool, "/"), "Is a directory")
 
     def test_a_closed_stream(self):
-        for tool in ("check-list", "make-record"):
+        for tool in ("check-list", "make-record", "sort-records"):
             with self.subTest(tool=tool):
                 self.failed(redirected("<&-", tool), "standard input is closed")
         self.assertEqual(redirected("<&-", "show-record")[0], 1)
@@ -167,7 +172,7 @@ class Input(StreamTest):
         self.assertEqual(process.returncode, 0)
 
     def test_input_without_an_end(self):
-        for tool in ("make-record", "show-record"):
+        for tool in ("make-record", "show-record", "sort-records"):
             with self.subTest(tool=tool):
                 status, _, message = redirected("</dev/zero", tool)
                 self.assertEqual(status, 1)

@@ -3,11 +3,13 @@
 import itertools
 import os
 import pty
+import random
 import subprocess
 
 import second
-from running import (ACCIDENTAL_A_BYTES, ACCIDENTAL_A_TEXT, EXAMPLES, LINKED_A_BYTES, LINKED_A_TEXT, PATIENCE, REDUCED_A_BYTES, REDUCED_A_TEXT,
-                     SECTION_A_BYTES, SECTION_A_TEXT, TOP, CommandTest, command, run)
+from running import (ACCIDENTAL_A_BYTES, ACCIDENTAL_A_TEXT, BOTTOM_UP_BYTES, BOTTOM_UP_TEXT, EXAMPLES, LINKED_A_BYTES, LINKED_A_TEXT, PATIENCE,
+                     REDUCED_A_BYTES, REDUCED_A_TEXT, SECTION_A_BYTES, SECTION_A_TEXT, TOP, TOP_DOWN_BYTES, TOP_DOWN_TEXT, CommandTest, command,
+                     run, with_layers)
 
 
 class TextTest(CommandTest):
@@ -520,6 +522,49 @@ class LongTermFactor(TextTest):
             self.assertIn(part, rules)
 
 
+class Sequence(TextTest):
+    """Layers: in any sequence in the text; by rising depth, and equal depths by rising area, in the record."""
+
+    START = "300 500 30 500 0 200000000 80000 "
+
+    def has(self, words, *layers):
+        """The words make section A with these layers in this sequence."""
+        self.mean(with_layers(*layers), self.START + words)
+
+    def test_from_the_top_and_from_the_bottom(self):
+        self.mean(TOP_DOWN_BYTES, TOP_DOWN_TEXT, BOTTOM_UP_TEXT)
+
+    def test_by_depth_and_then_by_area(self):
+        self.has("450/100 50/400 450/1500 50/20 300/9", (50, 20), (50, 400), (300, 9), (450, 100), (450, 1_500))
+
+    def test_by_numbers_and_not_by_words(self):
+        self.has("1000/9 99/10 99/9 10cm/3x16 0.1m/6cm2", (99, 9), (99, 10), (100, 600), (100, 603), (1_000, 9))
+        self.has("4294967295/0 0/4294967295 2147483648/1 2147483647/1 0/0", (0, 0), (0, 2**32 - 1), (2**31 - 1, 1), (2**31, 1), (2**32 - 1, 0))
+
+    def test_equal_layers_are_kept(self):
+        self.has("450/750 50/400 450/750 50/400 450/750", *[(50, 400)] * 2, *[(450, 750)] * 3)
+
+    def test_sixteen_layers(self):
+        layers = [(depth, area) for depth in (50, 150, 350, 450) for area in (100, 200, 200, 300)]
+        words = [f"{depth}/{area}" for depth, area in layers]
+        for turned in (words, words[::-1], random.Random(6).sample(words, len(words))):
+            self.has(" ".join(turned), *layers)
+
+    def test_links_situation_and_factor_stay_as_they_are(self):
+        record = (bytes.fromhex("030003EF") + TOP_DOWN_BYTES[4:52] + bytes.fromhex("00000065" "000000C8") + TOP_DOWN_BYTES[52:]
+                  + bytes.fromhex("0000000000000002" "0000000000000055"))
+        words = ["450/1500", "links=101/200", "50/400", "situation=2", "alphacc=0.85"]
+        self.mean(record, *(self.START + " ".join(turned) for turned in (words, words[::-1], words[2:] + words[:2])))
+
+    def test_below_titles(self):
+        self.mean(TOP_DOWN_BYTES, "b;h;fck;fyk;N;M;V;layer 1;layer 2\n300;500;30;500;;200kNm;80kN;450/1500;50/400",
+                  "layers;b;h;layers;fck;fyk;N;M;V\n450/1500;300;500;50/400;30;500;;200kNm;80kN",
+                  "b,h,fck,fyk,N,M,V,layers\n300,500,30,500,,200kNm,80kN,450/1500 50/400")
+
+    def test_the_rule_is_in_the_help(self):
+        self.assertIn("rising depth", run("make-record", "--help")[1].decode())
+
+
 class Messages(TextTest):
     """File, line, column, and what was expected."""
 
@@ -577,7 +622,7 @@ class Messages(TextTest):
 
     def test_an_ascii_locale(self):
         ascii_only = {**os.environ, "LC_ALL": "C", "PYTHONUTF8": "0", "PYTHONCOERCECLOCALE": "0"}
-        for tool in ("make-record", "show-record", "check-list"):
+        for tool in ("make-record", "show-record", "sort-records", "check-list"):
             status, text, message = run(tool, "--help", env=ascii_only)
             self.assertEqual((status, message), (0, ""))
             self.assertIn("usage", text.decode())
@@ -590,22 +635,23 @@ class Help(TextTest):
     """--help, arguments that are none, and a terminal."""
 
     def test_help(self):
-        for tool, part in (("make-record", "kNm"), ("show-record", "make-record"), ("check-list", "--text"),
-                           ("build-library", "libsalwoerk.so")):
+        for tool, part in (("make-record", "kNm"), ("show-record", "make-record"), ("sort-records", "rising depth"),
+                           ("check-list", "--text"), ("build-library", "libsalwoerk.so")):
             status, text, message = run(tool, "--help")
             self.assertEqual((status, message), (0, ""))
             self.assertIn(part, text.decode())
 
     def test_arguments_that_are_not_understood(self):
-        for tool, *arguments in (("make-record", "--spilt", "x"), ("show-record", "--text"), ("check-list", "--list"),
-                                 ("check-list", "one", "two"), ("build-library", "here")):
+        for tool, *arguments in (("make-record", "--spilt", "x"), ("show-record", "--text"), ("sort-records", "--split", "x"),
+                                 ("check-list", "--list"), ("check-list", "one", "two"), ("build-library", "here")):
             with self.subTest(tool=tool):
                 status, text, message = run(tool, *arguments, given=SECTION_A_TEXT)
                 self.assertEqual((status, text), (2, b""))
                 self.says(message, tool, "--help")
 
     def test_a_terminal_is_told_what_is_awaited(self):
-        for tool, part in (("make-record", "b h fck fyk N M V"), ("show-record", "records"), ("check-list", "records")):
+        for tool, part, lines in (("make-record", "b h fck fyk N M V", 1), ("show-record", "records", 1),
+                                  ("sort-records", "records", 2), ("check-list", "records", 1)):  # the second one is its note
             ours, terminal = pty.openpty()
             try:
                 os.write(ours, b"\x04")
@@ -615,20 +661,21 @@ class Help(TextTest):
                 os.close(terminal)
             self.assertEqual(done.returncode, 0)
             self.says(done.stderr.decode(), "awaiting", part)
-            self.assertEqual(done.stderr.count(b"\n"), 1)
+            self.assertEqual(done.stderr.count(b"\n"), lines)
 
     def test_no_binary_to_a_terminal(self):
-        ours, terminal = pty.openpty()
-        try:
-            status, _, message = run("make-record", given=SECTION_A_TEXT, stdout=terminal)
-            os.set_blocking(ours, False)
-            with self.assertRaises(BlockingIOError):  # nothing was written to it
-                os.read(ours, 1)
-        finally:
-            os.close(ours)
-            os.close(terminal)
-        self.assertEqual(status, 1)
-        self.says(message, "terminal")
+        for tool, given in (("make-record", SECTION_A_TEXT), ("sort-records", SECTION_A_BYTES)):
+            ours, terminal = pty.openpty()
+            try:
+                status, _, message = run(tool, given=given, stdout=terminal)
+                os.set_blocking(ours, False)
+                with self.assertRaises(BlockingIOError):  # nothing was written to it
+                    os.read(ours, 1)
+            finally:
+                os.close(ours)
+                os.close(terminal)
+            self.assertEqual(status, 1)
+            self.says(message, "terminal")
 
 
 class Split(TextTest):
@@ -670,11 +717,17 @@ class Split(TextTest):
 class ShowRecord(TextTest):
     """Records to text, and back."""
 
-    def lines(self, records):
-        """The lines of text that are no remarks."""
-        status, text, message = run("show-record", given=records)
-        self.assertEqual((status, message), (0, ""))
+    def lines(self, records, *arguments, noted=()):
+        """The lines of text that are no remarks; `noted` are the records that a note names each."""
+        status, text, message = run("show-record", *arguments, given=records)
+        self.assertEqual((status, message), (0, "".join(map(self.note, noted))))
         return [line.split() for line in text.decode().splitlines() if not line.startswith("#")]
+
+    @staticmethod
+    def note(named):
+        """What is said of records that are out of sequence."""
+        return (f"show-record: note: {named}: layers out of sequence (rising depth, then rising area), "
+                "which the engine does not read (31); sort-records puts them in sequence\n")
 
     def back(self, records):
         """The records after one way through text."""
@@ -736,6 +789,36 @@ class ShowRecord(TextTest):
         self.assertEqual(second.read_record(again).load, second.read_record(record).load)
         self.assertEqual(second.read_record(again).section, section)
 
+    def test_layers_out_of_sequence_are_shown_as_they_stand(self):
+        for layers in ([(450, 1_500), (50, 400)], [(450, 800), (450, 700)], [(50, 9), (450, 1), (450, 2), (449, 3)]):
+            words = [f"{depth}/{area}" for depth, area in layers]
+            self.assertEqual(self.lines(with_layers(*layers), noted=["standard input, record 1"]), [SECTION_A_TEXT.split()[:-1] + words])
+
+    def test_make_record_puts_them_in_sequence(self):
+        self.assertEqual(self.back(BOTTOM_UP_BYTES), TOP_DOWN_BYTES)
+
+    def test_layers_in_sequence_get_no_note(self):
+        for layers in ([(50, 400), (450, 1_500)], [(450, 700), (450, 800)], [(450, 750)] * 16, []):
+            self.assertEqual(len(self.lines(with_layers(*layers))), 1)
+        self.lines(bytes.fromhex("00800100") + TOP_DOWN_BYTES[52:])  # with a gap
+
+    def test_the_note_names_ten_records_and_counts_the_others(self):
+        ten = "standard input, record 1, 3, 5, 7, 9, 11, 13, 15, 17, 19"
+        for count, named in ((10, ten), (11, f"{ten} and 1 more"), (2_000, f"{ten} and 1990 more")):
+            self.assertEqual(len(self.lines((BOTTOM_UP_BYTES + SECTION_A_BYTES) * count, noted=[named])), 2 * count)
+
+    def test_a_note_for_each_input(self):
+        path, other = self.file("old.rec", SECTION_A_BYTES + BOTTOM_UP_BYTES), self.file("new.rec", TOP_DOWN_BYTES)
+        lines = self.lines(BOTTOM_UP_BYTES, path, other, "-", path,
+                           noted=[f"{path}, record 2", "standard input, record 1", f"{path}, record 2"])
+        self.assertEqual(lines, [text.split() for text in (SECTION_A_TEXT, BOTTOM_UP_TEXT, TOP_DOWN_TEXT, BOTTOM_UP_TEXT, SECTION_A_TEXT,
+                                                           BOTTOM_UP_TEXT)])
+
+    def test_a_note_comes_before_what_is_wrong(self):
+        status, _, message = run("show-record", given=BOTTOM_UP_BYTES + b"\0\0")
+        self.assertEqual((status, message), (1, self.note("standard input, record 1") + "show-record: standard input, record 2, from byte 68: "
+                                             "2 bytes are left; expected at least 4\n"))
+
     def test_broken_records_are_named_after_the_whole_ones(self):
         for broken, fault in ((b"\0\0", "2 bytes are left"), (SECTION_A_BYTES[:59], "calls for 60 bytes; 59 are left"),
                               (bytes.fromhex("00000080"), "calls for 12 bytes; 4 are left"),
@@ -781,8 +864,10 @@ class Examples(TextTest):
         self.assertEqual(self.answers("several.txt")[9], "10 0 4313 169948995 0 0 0 0 2 2 2 0 2")
 
     def test_several_has_the_first_beam_typed_from_the_bottom(self):
-        lines = self.answers("several.txt")
-        self.assertEqual(lines[11].split()[1:], lines[0].split()[1:])
+        texts = [line.split() for line in (EXAMPLES / "several.txt").read_text().splitlines() if line and not line.startswith("#")]
+        self.assertEqual(texts[11], texts[0][:7] + texts[0][:6:-1])
+        records = [record for _, record, _ in second.list_answers(self.made("", EXAMPLES / "several.txt"))]
+        self.assertEqual(records[11], records[0])
 
     def test_the_export_of_a_spreadsheet(self):
         self.assertEqual(self.answers("beams.csv"), self.answers("several.txt")[:10])

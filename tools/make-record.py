@@ -72,8 +72,8 @@ def said(paths, groups):
 def main():
     """Write all records, or none where a line is wrong."""
     given = arguments()
-    if given.split is None and os.isatty(streams.OUTPUT):
-        raise Complaint("records are binary; expected a file or a program as standard output, and no terminal")
+    if given.split is None:
+        streams.demand_no_terminal()
     records, notes = table.records_of_texts(streams.inputs(given.files, COMMAND, AWAITED))
     data = b"".join(records)
     if given.split is None and len(data) > INPUT_ROOM:

@@ -50,12 +50,22 @@ class Section(NamedTuple):
         """Those of the columns that a record has: not one whose number is what a missing one means."""
         return [column for column in columns if self.numbers.get(column.name, column.missing) != column.missing]
 
+    @property
+    def sequence(self):
+        """The layers as a record has them: by rising depth, and equal depths by rising area."""
+        return sorted(self.layers)
+
+    @property
+    def in_sequence(self):
+        """The layers stand so; a reader refuses a record that has them otherwise (31)."""
+        return self.layers == self.sequence
+
 
 def packed(section):
-    """The record, with the lowest layer bits and without a number that is what a missing one means."""
+    """The record as the engine writes it: layers in sequence on the lowest layer bits, and no number that is what a missing one means."""
     fields = {column.bit: struct.pack(">q", section.numbers[column.name]) for column in section.written(NUMBERS)}
     fields.update((LINKS_BIT, struct.pack(">II", *links)) for links in section.links)
-    fields.update((bit, struct.pack(">II", *layer)) for bit, layer in zip(LAYER_BITS, section.layers))
+    fields.update((bit, struct.pack(">II", *layer)) for bit, layer in zip(LAYER_BITS, section.sequence))
     bit_map = sum(1 << bit for bit in fields)
     return struct.pack(">I", bit_map) + b"".join(fields[bit] for bit in sorted(fields))
 
@@ -88,3 +98,28 @@ def unpacked(data, start):
             pairs.append(struct.unpack_from(">II", data, at))
         at += FIELD_BYTES
     return section, at
+
+
+def stored(name, data, complaints):
+    """Section and bytes of each record of an input, up to the first that is broken, which goes to the complaints."""
+    number, start = 1, 0
+    while start < len(data):
+        try:
+            section, end = unpacked(data, start)
+        except Complaint as complaint:
+            complaints.append(f"{name}, record {number}, from byte {start}: {complaint}")
+            return
+        yield section, data[start:end]
+        number, start = number + 1, end
+
+
+def put_in_sequence(record):
+    """The record with its layers in sequence on the bits that they have; no other byte is changed.
+
+    The fields of the layers follow one another, and compare as bytes as depth and then area do.
+    """
+    bits = bits_of_record(record, 0)
+    begin = MAP_BYTES + FIELD_BYTES * sum(bit < LAYER_BITS.start for bit in bits)
+    end = begin + FIELD_BYTES * sum(bit in LAYER_BITS for bit in bits)
+    layers = (record[at:at + FIELD_BYTES] for at in range(begin, end, FIELD_BYTES))
+    return record[:begin] + b"".join(sorted(layers)) + record[end:]

@@ -1,5 +1,7 @@
-"""Shows binary records as the readable text that make-record takes ('make-record --help' has its rules)."""
+"""Shows binary records as the readable text that make-record takes ('make-record --help' has its rules).
 
+Layers are shown in the sequence in which they stand; a note says which records are out of the engine's sequence.
+"""
 
 import records
 import streams
@@ -7,6 +9,7 @@ import table
 from streams import Complaint
 
 COMMAND = "show-record"
+NAMED = 10  # records of an input that a note names; it counts the others
 HEADING = """\
 # b h and the depths d in mm, fck fyk in N/mm², N V in N, M in N·mm, areas A in mm²;
 # N positive in compression, M positive where it compresses the top;
@@ -24,29 +27,37 @@ def arguments():
     return parser.parse_args()
 
 
-def lines_of(name, data):
-    """A line for each record of an input, and a complaint about the first that is broken."""
-    lines, start = [], 0
-    while start < len(data):
-        try:
-            section, start = records.unpacked(data, start)
-        except Complaint as complaint:
-            return lines, [f"{name}, record {len(lines) + 1}, from byte {start}: {complaint}"]
+def note_of(name, numbers):
+    """What is to be said of the records of an input, by their numbers, that are out of sequence."""
+    named = ", ".join(map(str, numbers[:NAMED]))
+    more = f" and {len(numbers) - NAMED} more" if len(numbers) > NAMED else ""
+    return (f"{name}, record {named}{more}: layers out of sequence (rising depth, then rising area), "
+            "which the engine does not read (31); sort-records puts them in sequence")
+
+
+def lines_of(name, data, notes, complaints):
+    """A line for each record of an input, up to the first that is broken."""
+    lines, unsorted = [], []
+    for section, _ in records.stored(name, data, complaints):
         lines.append(table.line_of(section))
-    return lines, []
+        if not section.in_sequence:
+            unsorted.append(len(lines))
+    if unsorted:
+        notes.append(note_of(name, unsorted))
+    return lines
 
 
 def main():
-    """The heading, then a line for each record; what is wrong comes after what was right."""
-    lines, complaints = [HEADING + table.title_line()], []
+    """The heading, then a line for each record; notes, and what is wrong, come after what was right."""
+    lines, notes, complaints = [HEADING + table.title_line()], [], []
     try:
         for name, data in streams.inputs(arguments().files, COMMAND, "binary records"):
-            more, wrong = lines_of(name, data)
-            lines += more
-            complaints += wrong
+            lines += lines_of(name, data, notes, complaints)
     except Complaint as complaint:
         complaints += complaint.args
     streams.write_output("".join(f"{line}\n" for line in lines).encode())
+    for note in notes:
+        streams.say(COMMAND, f"note: {note}")
     if complaints:
         raise Complaint(*complaints)
     return 0

@@ -6,6 +6,7 @@ All reading and writing of the commands goes through here, by file descriptor an
 import argparse
 import os
 import select
+import stat
 import sys
 
 INPUT, OUTPUT, ERRORS = 0, 1, 2
@@ -70,6 +71,25 @@ def demand(stream):
     """A stream that the command cannot do without."""
     if stream in closed:
         raise Complaint(f"{NAMES[stream]} is closed")
+
+
+def demand_no_terminal():
+    """Standard output is to take records."""
+    if os.isatty(OUTPUT):
+        raise Complaint("records are binary; expected a file or a program as standard output, and no terminal")
+
+
+def demand_other_files(paths):
+    """No input is the file that standard output goes to: the shell has emptied it, or it would hold both at the end."""
+    output = os.fstat(OUTPUT)
+    for path in paths or ["-"]:
+        try:
+            given = os.fstat(INPUT) if path == "-" else os.stat(path)
+        except OSError:
+            continue  # reading it will say so
+        if stat.S_ISREG(given.st_mode) and os.path.samestat(given, output):
+            name = NAMES[INPUT] if path == "-" else safe(path)
+            raise Complaint(f"{name} is standard output too, which the shell may have emptied already; expected another file")
 
 
 def read_stream(stream):

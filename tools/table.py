@@ -35,6 +35,9 @@ Situation, factor and links may be left out: the situation is persistent then,
 αcc is 1.00, and there are no links. Each stands once, after V or anywhere among
 the layers.
 
+Layers may stand in any sequence: the record has them by rising depth, and equal
+depths by rising area.
+
 Bars may stand for an area: 450/3x16 is a layer of three bars of 16 mm, and
 links=2x8/200 are links of two legs of 8 mm every 200 mm; their area is by
 π·d²/4, the sum rounded down to whole mm².

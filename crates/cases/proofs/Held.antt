@@ -19,11 +19,12 @@ use Rattle.equilibrium.specs.Depth.{depth_in}
 use Rattle.equilibrium.specs.Moment.{resistance_at, moment_in}
 use Rattle.shear.specs.SizeFactor.{K}
 use Rattle.shear.specs.Shear.{r, q, v, c, concrete_share, axial_share, VRdc}
+use Rattle.sequence.specs.Order.{in_order, ordered, insert, sorted}
 use Rattle.record.specs.Bytes.{number_at, bytes_of}
 use Rattle.record.specs.Map.{standing, map_with, only_fields, complete_to, complete}
 use Rattle.record.specs.Contents.{layers_to, filled, section_of, load_of}
 use Rattle.record.specs.Layout.{map_of, fields_to, fields, record_of}
-use Rattle.record.specs.Refusals.{read_tests}
+use Rattle.record.specs.Refusals.{read_tests, write_tests}
 use Rattle.record.specs.Read.{refused_reading, read_of}
 use Rattle.links.specs.Links.{link_resistance, strut_resistance, strut_cotangent, spacing_ok, ratio_ok}
 use Rattle.clauses.specs.Linked.{linked_report}
@@ -39,7 +40,7 @@ everywhere : materials_of ≡ materials_in
 everywhere = λ i grade. opened grade i
 
 all_hold : T (every holds cases) × (T (every tries depth_rows) × T (every shows check_rows))
-unfolding cases depth_rows check_rows section_tests accepted depth_in moment_in check_in read_tests read_of
+unfolding cases depth_rows check_rows section_tests accepted depth_in moment_in check_in read_tests read_of write_tests
 all_hold = rw everywhere (
     unfold same_listed answers_by is_depth found_at reports
     whole integer ratio ◌+ᶠ◌ ◌-ᶠ◌ ◌*ᶠ◌ ◌/ᶠ◌ ◌÷ᶠ◌ ◌+ʳ◌ reciprocal at_most is_same held floor rounded_down
@@ -50,7 +51,7 @@ all_hold = rw everywhere (
     beyond.concrete_moment beyond.layer_moment beyond.steel_resistance beyond.moment_resistance steel_bound bound resistance_at
     turned carries up_to_10h
     tension_layers total mean_depth K r q v c concrete_share axial_share VRdc
-    map_with map_of fields_to fields record_of bytes_of
+    in_order ordered insert sorted map_with map_of fields_to fields record_of bytes_of
     number_at standing only_fields complete_to complete layers_to filled section_of load_of refused_reading
     link_resistance strut_resistance strut_cotangent spacing_ok ratio_ok linked_report report_of report_at
     in (tt, (tt, tt)))

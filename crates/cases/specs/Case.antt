@@ -1,5 +1,5 @@
 -- What a row of the table of worked cases says. Assumes nothing.
-use Rattle.std.specs.Prelude.{ℕ, Bool, true, false, ◌&&◌, List, [], ◌∷◌, eqb, ℤ, Result, Ok, Err}
+use Rattle.std.specs.Prelude.{ℕ, Bool, true, false, ◌&&◌, List, [], ◌∷◌, eqb, ℤ, replicate, Result, Ok, Err}
 use Rattle.std.specs.Int.Signed.{le_z}
 use Rattle.refusals.specs.declared.Refusal.{Refusal}
 use Rattle.refusals.specs.Number.{number_of, number_or_0, refusal_number}
@@ -27,8 +27,8 @@ use Rattle.links.specs.declared.Truss.{Truss}
 use Rattle.links.specs.Links.{link_resistance, strut_resistance}
 use Rattle.verdicts.specs.Tension.{As, dm}
 use Rattle.record.specs.declared.Reading.{Reading}
-use Rattle.record.specs.Layout.{record_of}
 use Rattle.record.specs.Read.{read_of}
+use Rattle.record.specs.Write.{bytes_written}
 use Rattle.clauses.specs.declared.Listed.{Listed}
 use Rattle.clauses.specs.Check.{listed, check_of}
 
@@ -59,10 +59,12 @@ pub data Case : Type 0 where
   shear_numbers : Section → ℕ → ℕ → ℕ → ℕ → Case
   -- a section with links and a load; then the refusal of the load's tests and the links', 0 for none
   link_tested : Section → Load → ℕ → Case
-  -- a section and a load; then the bytes of their record
+  -- a section and a load; then the bytes of their record, as it is written where there is room
   written : Section → Load → List ℕ → Case
   -- bytes; then the refusal, the length, the situation and αcc that are read
   read : List ℕ → ℕ → ℕ → ℤ → ℤ → Case
+  -- bytes; then the layers that are read
+  read_layers : List ℕ → List Layer → Case
   -- what 6.2.3 asks of a section and a cotangent in tenths; then the resistance of the links and that of the strut
   struts : Truss → ℕ → ℕ → ℕ → Case
 
@@ -102,6 +104,15 @@ turned_gives ls (Err j) u z = false
 abbrev reads_as : Reading → ℕ → ℕ → ℤ → ℤ → Bool
 reads_as r k n z a = eqb r.refusal k && eqb r.length n && sameℤ r.section.grade.situation z && sameℤ r.section.grade.alphacc a
 
+-- room for the longest record
+abbrev lent : List ℕ
+lent = replicate 212 0
+
+-- depths and areas, one layer after the other
+abbrev numbers_in : List Layer → List ℕ
+numbers_in [] = []
+numbers_in (l ∷ ls) = l.depth ∷ l.area ∷ numbers_in ls
+
 abbrev same_numbers : List ℕ → List ℕ → Bool
 same_numbers [] [] = true
 same_numbers (x ∷ xs) (y ∷ ys) = eqb x y && same_numbers xs ys
@@ -131,7 +142,8 @@ holds (resists s u k m) = eqb (refusal_number (moment.moment_at s u)) k && same�
 holds (turned_steel s u z) = turned_gives (layers_of s) (sections.accepted (counted s)) u z
 holds (size_factor d k) = eqb (K d) k
 holds (link_tested s l k) = eqb (number_or_0 (first_failing (sections.load_link_tests (links_of s) l))) k
-holds (written s l bytes) = same_numbers (record_of (counted s) (links_of s) l) bytes
+holds (written s l bytes) = same_numbers (bytes_written (counted s) (links_of s) l lent) bytes
+holds (read_layers xs ls) = same_numbers (numbers_in (layers_of (read_of xs).section)) (numbers_in ls)
 holds (read xs k n z a) = reads_as (read_of xs) k n z a
 holds (struts x c k z) = eqb (link_resistance x c) k && eqb (strut_resistance x c) z
 holds (shear_numbers s u k y z) = shear_is (layers_of s) (sections.accepted (counted s)) u k y z

@@ -1,9 +1,9 @@
 -- Worked cases; that they hold, one computed test over the definitions, is `cases_hold`, `depths_hold` and `checks_hold` of the proofs.
 -- Every case of document 01 that is marked (P) has its rows here, in 01's order, those of Find a depth and of Check in lists of their own.
 -- Beside them stand the example of 01's list, the refusals 11 and 12 also as Check gives them, every class of the table with the letters
--- that follow from it, and both ends of the steel's range with what lies beyond; at the end, the cases of 02's requests 1, 3, 8, 10, 11,
--- 12 and 2, with numbers of the paper or of the second implementation. Assumes nothing.
-use Rattle.std.specs.Prelude.{ℕ, List, [], ◌∷◌, ◌++◌, ℤ, pos, neg_ℤ, replicate}
+-- that follow from it, and both ends of the steel's range with what lies beyond; at the end, the cases of 02's requests 1, 3, 8, 10, 6,
+-- 11, 12 and 2, with numbers of the paper or of the second implementation. Assumes nothing.
+use Rattle.std.specs.Prelude.{ℕ, ◌/◌, ◌%◌, List, [], ◌∷◌, ◌++◌, ℤ, pos, neg_ℤ, replicate}
 use Rattle.materials.specs.declared.Grade.{Grade}
 use Rattle.section.specs.declared.Layer.{Layer}
 use Rattle.section.specs.declared.Section.{Section}
@@ -14,7 +14,7 @@ use Rattle.clauses.specs.declared.Face.{Face}
 use Rattle.clauses.specs.declared.Listed.{Listed}
 use Rattle.clauses.specs.Check.{refused_listed}
 use Rattle.cases.specs.Case.{Case, Case.material, Case.no_material, Case.tests, Case.force, Case.turned_force, Case.force_beyond, Case.resists}
-use Rattle.cases.specs.Case.{Case.turned_steel, Case.size_factor, Case.shear_numbers, Case.link_tested, Case.written, Case.read, Case.struts}
+use Rattle.cases.specs.Case.{Case.turned_steel, Case.size_factor, Case.shear_numbers, Case.link_tested, Case.written, Case.read, Case.read_layers, Case.struts}
 use Rattle.cases.specs.Case.{DepthRow, CheckRow, with_links}
 
 -- the situation, αcc, fck and fyk
@@ -142,18 +142,47 @@ linked_line f o vrd dm area cotangent resistance verdicts =
       verdicts = verdicts;
     }
 
--- the record of A under M 200,000,000 and V 80,000 with this first byte of the map, and what follows the layer
-abbrev record_a : ℕ → List ℕ → List ℕ
-record_a top rest =
-    top ∷ 0 ∷ 1 ∷ 111
-    ∷ 0 ∷ 0 ∷ 0 ∷ 0 ∷ 0 ∷ 0 ∷ 1 ∷ 44
+-- the bytes of b, h, fck and fyk of A, and what follows them
+abbrev sizes_a : List ℕ → List ℕ
+sizes_a rest =
+    0 ∷ 0 ∷ 0 ∷ 0 ∷ 0 ∷ 0 ∷ 1 ∷ 44
     ∷ 0 ∷ 0 ∷ 0 ∷ 0 ∷ 0 ∷ 0 ∷ 1 ∷ 244
     ∷ 0 ∷ 0 ∷ 0 ∷ 0 ∷ 0 ∷ 0 ∷ 0 ∷ 30
     ∷ 0 ∷ 0 ∷ 0 ∷ 0 ∷ 0 ∷ 0 ∷ 1 ∷ 244
-    ∷ 0 ∷ 0 ∷ 0 ∷ 0 ∷ 11 ∷ 235 ∷ 194 ∷ 0
-    ∷ 0 ∷ 0 ∷ 0 ∷ 0 ∷ 0 ∷ 1 ∷ 56 ∷ 128
-    ∷ 0 ∷ 0 ∷ 1 ∷ 194 ∷ 0 ∷ 0 ∷ 5 ∷ 220
     ∷ rest
+
+-- M 200,000,000 and V 80,000, and what follows them
+abbrev loads_a : List ℕ → List ℕ
+loads_a rest =
+    0 ∷ 0 ∷ 0 ∷ 0 ∷ 11 ∷ 235 ∷ 194 ∷ 0
+    ∷ 0 ∷ 0 ∷ 0 ∷ 0 ∷ 0 ∷ 1 ∷ 56 ∷ 128
+    ∷ rest
+
+-- the eight bytes of a layer, its depth and then its area, both below 65,536
+abbrev pair : ℕ → ℕ → List ℕ
+pair depth area = 0 ∷ 0 ∷ depth / 256 ∷ depth % 256 ∷ 0 ∷ 0 ∷ area / 256 ∷ area % 256 ∷ []
+
+-- the record of A under that load with this first byte of the map, and what follows the layer
+abbrev record_a : ℕ → List ℕ → List ℕ
+record_a top rest = top ∷ 0 ∷ 1 ∷ 111 ∷ sizes_a (loads_a (pair 450 1500 ++ rest))
+
+-- A with these two layers in place of its own, in this sequence
+abbrev two : Layer → Layer → Section
+two k l = layered (grade 30 500) 300 500 2 (k ∷ l ∷ replicate 14 no_layer)
+
+-- the record of A with two layers, of these bytes, in place of its own: under that load, under no load, and under N 500,000,001
+abbrev record_two : List ℕ → List ℕ → List ℕ
+record_two k l = 0 ∷ 0 ∷ 3 ∷ 111 ∷ sizes_a (loads_a (k ++ l))
+
+abbrev unloaded : List ℕ → List ℕ → List ℕ
+unloaded k l = 0 ∷ 0 ∷ 3 ∷ 15 ∷ sizes_a (k ++ l)
+
+abbrev overloaded : List ℕ → List ℕ → List ℕ
+overloaded k l = 0 ∷ 0 ∷ 3 ∷ 31 ∷ sizes_a (0 ∷ 0 ∷ 0 ∷ 0 ∷ 29 ∷ 205 ∷ 101 ∷ 1 ∷ (k ++ l))
+
+-- the first of these with its layers at bits 9 and 23
+abbrev with_gaps : List ℕ → List ℕ → List ℕ
+with_gaps k l = 0 ∷ 128 ∷ 2 ∷ 111 ∷ sizes_a (loads_a (k ++ l))
 
 -- eight bytes, of which the last is k
 abbrev eight : ℕ → List ℕ
@@ -337,6 +366,33 @@ cases =
     ∷ read (record_a 3 (eight 2 ++ eight 85)) 0 76 (pos 2) (pos 85)
     ∷ read (record_a 2 (eight 79)) 34 68 (pos 0) (pos 0)
     ∷ read (record_a 4 (eight 85)) 21 0 (pos 0) (pos 0)
+    -- request 6: 50/600 and 450/1,500 are written in one sequence, whichever comes first; equal depths by area
+    ∷ written (two (bars 50 600) (bars 450 1500)) (load (pos 0) (pos 200000000) (pos 80000)) (record_two (pair 50 600) (pair 450 1500))
+    ∷ written (two (bars 450 1500) (bars 50 600)) (load (pos 0) (pos 200000000) (pos 80000)) (record_two (pair 50 600) (pair 450 1500))
+    ∷ written (two (bars 450 750) (bars 450 749)) (load (pos 0) (pos 0) (pos 0)) (unloaded (pair 450 749) (pair 450 750))
+    -- request 6: whole numbers are compared and not their bytes; three layers
+    ∷ written (two (bars 256 512) (bars 255 513)) (load (pos 0) (pos 0) (pos 0)) (unloaded (pair 255 513) (pair 256 512))
+    ∷ written (two (bars 450 512) (bars 450 511)) (load (pos 0) (pos 0) (pos 0)) (unloaded (pair 450 511) (pair 450 512))
+    ∷ written from_middle (load (pos 0) (pos 0) (pos 0)) (0 ∷ 0 ∷ 7 ∷ 15 ∷ sizes_a (pair 50 402 ++ (pair 400 628 ++ pair 450 942)))
+    -- request 6: so they are read, with gaps between their bits too; swapped they give 31, and zeros
+    ∷ read (record_two (pair 50 600) (pair 450 1500)) 0 68 (pos 1) (pos 100)
+    ∷ read_layers (record_two (pair 50 600) (pair 450 1500)) (bars 50 600 ∷ bars 450 1500 ∷ [])
+    ∷ read (record_two (pair 450 1500) (pair 50 600)) 31 68 (pos 0) (pos 0)
+    ∷ read_layers (record_two (pair 450 1500) (pair 50 600)) []
+    ∷ read (with_gaps (pair 50 600) (pair 450 1500)) 0 68 (pos 1) (pos 100)
+    ∷ read (with_gaps (pair 450 1500) (pair 50 600)) 31 68 (pos 0) (pos 0)
+    -- request 6: after 450/750 the same again, 450/751 and 451/749 pass; 450/749, 449/750 and 449/751 do not
+    ∷ read_layers (unloaded (pair 450 750) (pair 450 750)) (bars 450 750 ∷ bars 450 750 ∷ [])
+    ∷ read_layers (unloaded (pair 450 750) (pair 450 751)) (bars 450 750 ∷ bars 450 751 ∷ [])
+    ∷ read_layers (unloaded (pair 450 750) (pair 451 749)) (bars 450 750 ∷ bars 451 749 ∷ [])
+    ∷ read (unloaded (pair 450 750) (pair 450 749)) 31 52 (pos 0) (pos 0)
+    ∷ read (unloaded (pair 450 750) (pair 449 750)) 31 52 (pos 0) (pos 0)
+    ∷ read (unloaded (pair 450 750) (pair 449 751)) 31 52 (pos 0) (pos 0)
+    -- request 6: 6 and 7 before 31; 31 before 8, here of N 500,000,001
+    ∷ read (unloaded (pair 450 1500) (pair 0 600)) 6 52 (pos 0) (pos 0)
+    ∷ read (unloaded (pair 450 1500) (pair 50 0)) 7 52 (pos 0) (pos 0)
+    ∷ read (overloaded (pair 450 1500) (pair 50 600)) 31 60 (pos 0) (pos 0)
+    ∷ read (overloaded (pair 50 600) (pair 450 1500)) 8 60 (pos 0) (pos 0)
     -- request 11: A just beyond 10h; turned over by hand, where the force falls again
     ∷ force_beyond A 5001 (pos 2505647)
     ∷ force_beyond over_a 6249 (pos 3651690)

@@ -1,11 +1,13 @@
 -- What the documents say of the definitions and no contract says: each a law, in full. A law that is taken away or weakened in its crate
 -- fails here. Assumes nothing.
-use Rattle.std.specs.Prelude.{ℕ, suc, ◌+◌, ◌*◌, ◌^◌, ◌≤◌, ◌<◌, true, false, ◌↔◌, ◌≡◌, refl, ℤ, neg_ℤ, ◌<ℤ◌, length, Ok}
+use Rattle.std.specs.Prelude.{ℕ, suc, ◌+◌, ◌*◌, ◌^◌, ◌≤◌, ◌<◌, true, false, not, ◌↔◌, ◌≡◌, refl, ℤ, neg_ℤ, ◌<ℤ◌, length, Ok}
 use mathlib.Core.List.{List, [], ◌++◌, reverse, reverse_perm}
 use Rattle.arith.specs.Fraction.{Ratio, Same, integer, ◌<ᶠ◌}
 use Rattle.arith.specs.Greatest.{IsGreatest, IsLeast}
 use Rattle.arith.specs.Halving.{halved, kept_up_to}
 use Rattle.arith.specs.Rearranged.{Rearranged, times}
+use Rattle.refusals.specs.declared.Refusal.TheVariants.{LayerSequence}
+use Rattle.refusals.specs.Number.{number_of}
 use Rattle.section.specs.declared.Layer.{Layer}
 use Rattle.section.specs.declared.Links.{Links}
 use Rattle.section.specs.declared.Section.{Section}
@@ -25,6 +27,7 @@ use Rattle.equilibrium.specs.Refusals.{carries, up_to_10h}
 use Rattle.section.specs.Turned.{turned}
 use Rattle.equilibrium.specs.Depth.{depth_under, trials_under, find_depth}
 use Rattle.equilibrium.specs.Moment.{moment_at}
+use Rattle.section.proofs.CountedLinks.{counted_twice}
 use Rattle.section.proofs.Turned.{usable_turned}
 use Rattle.section.proofs.Usable.{usable_by}
 use Rattle.section.proofs.Rearranged as section_sequence
@@ -47,11 +50,17 @@ use Rattle.clauses.specs.Check.{check_of, OfReport}
 use Rattle.clauses.specs.Unreached.{Unreached}
 use Rattle.clauses.proofs.Laws as clauses
 use Rattle.clauses.proofs.Rearranged as clauses_sequence
+use Rattle.sequence.specs.Order.{ordered, sorted}
+use Rattle.sequence.proofs.Order as sequences
 use Rattle.record.specs.Map.{record_length}
 use Rattle.record.specs.Layout.{map_of, record_of}
-use Rattle.record.specs.Write.{written_of, buffer_of}
+use Rattle.record.specs.Refusals.{names_length}
+use Rattle.record.specs.Read.{read_of}
+use Rattle.record.specs.Write.{written_of, buffer_of, bytes_written}
+use Rattle.record.specs.RoundTrip.{cleared, ReadsBack}
+use Rattle.record.proofs.Readings as readings
 use Rattle.record.proofs.Laws as records
-use Rattle.listing.specs.Records.{GoesOn, list_of}
+use Rattle.listing.specs.Records.{ends, GoesOn, list_of}
 use Rattle.listing.specs.Program.{first_line, too_long, printed_of}
 use Rattle.listing.proofs.Laws as listing
 use Rattle.cases.specs.Case.{with_links}
@@ -89,7 +98,7 @@ pub moment_ignores_links : (s : Section) (k : Links) (u : ℕ) → moment_at (wi
 moment_ignores_links s k u = refl
 
 -- ---- "any rearrangement of the layers of a section gives the same depth, moment, verdicts and refusal": 02's ticket 2, for every section, valid
--- or not, and every load. Nothing is said of record bytes, "which follow the sequence".
+-- or not, and every load. (Of the bytes of records: ticket 6, below.)
 
 -- Find a depth: the whole answer, its trials too
 pub rearranged_find : (s t : Section) (N : ℤ) → SameBars (counted s) (counted t) → find_depth s N ≡ find_depth t N
@@ -193,11 +202,59 @@ best_cotangent = links.best_cotangent
 pub only_cotangent : (x : Truss) {c : ℕ} → BestCotangent x c → c ≡ strut_cotangent x
 only_cotangent x best = first_only best (links.best_cotangent x)
 
+-- ---- "One sequence of layers on disk": 02's ticket 6
+
+-- the layers so ordered are a rearrangement that stands in that sequence, and there is no other
+pub sequence_of : (ls : List Layer) → Rearranged ls (sorted ls) × (ordered (sorted ls) ≡ true)
+sequence_of ls = (sequences.sorted_rearranged ls, sequences.sorted-ordered ls)
+
+pub sequence_one : (ls ks : List Layer) → Rearranged ls ks → ordered ks ≡ true → ks ≡ sorted ls
+sequence_one ls ks = sequences.sequence_one
+
+-- Write a record: the same bars with the same links have the same answer, refused or not, and leave the same buffer
+pub rearranged_write : (s t : Section) (load : Load) (buf : List ℕ) → SameBars (counted s) (counted t) → links_of s ≡ links_of t
+    → (written_of (counted s) (links_of s) load buf ≡ written_of (counted t) (links_of t) load buf)
+    × (buffer_of (counted s) (links_of s) load buf ≡ buffer_of (counted t) (links_of t) load buf)
+rearranged_write s t load buf same links =
+    (records.rearranged_written s t load same links buf, records.rearranged_bytes s t load same links buf)
+
+-- "Where both writes succeed, equal bags of layers with equal other fields now give records of equal bytes": whatever buffers were lent
+pub canonical_bytes : (s t : Section) (load : Load) (xs ys : List ℕ) → SameBars (counted s) (counted t) → links_of s ≡ links_of t
+    → (written_of (counted s) (links_of s) load xs).refusal ≡ 0 → (written_of (counted t) (links_of t) load ys).refusal ≡ 0
+    → bytes_written (counted s) (links_of s) load xs ≡ bytes_written (counted t) (links_of t) load ys
+canonical_bytes = records.canonical_bytes
+
+-- and no others do: where both writes succeed, and both are read back as the clause `round_trip` promises, records of equal bytes are of equal bags of
+-- layers with equal other fields (a section of the machine has sixteen places, and one that is written counts no more)
+pub equal_bytes : (s t : Section) (l m : Load) (xs ys : List ℕ) → s.count ≤ length s.layers → t.count ≤ length t.layers
+    → ReadsBack s l (written_of (counted s) (links_of s) l xs) (buffer_of (counted s) (links_of s) l xs)
+    → ReadsBack t m (written_of (counted t) (links_of t) m ys) (buffer_of (counted t) (links_of t) m ys)
+    → (written_of (counted s) (links_of s) l xs).refusal ≡ 0 → (written_of (counted t) (links_of t) m ys).refusal ≡ 0
+    → bytes_written (counted s) (links_of s) l xs ≡ bytes_written (counted t) (links_of t) m ys
+    → SameBars (counted s) (counted t) × ((links_of s ≡ links_of t) × (l ≡ m))
+equal_bytes = records.equal_bytes
+
+-- "The reader takes only records so ordered"
+pub read_ordered : (bytes : List ℕ) → (read_of bytes).refusal ≡ 0 → ordered (layers_of (read_of bytes).section) ≡ true
+read_ordered = readings.read_ordered
+
+-- What the round trip yields has the same bars and links as the section that was written: so Find a depth, Moment at a depth and Check answer the same
+-- of both, by the laws of ticket 2
+pub written_same : (s : Section) → s.count ≤ length s.layers → SameBars (counted s) (counted (cleared s)) × (links_of (cleared s) ≡ links_of s)
+written_same s h = (records.written_same s h, counted_twice s.links)
+
 -- ---- records and their list
 
 -- "The length is 4 plus 8 times the number of bits that stand": that of the bytes
 pub record_length_lem : (c : Counted) (links : Links) (load : Load) → length (record_of c links load) ≡ record_length (map_of c links load)
 record_length_lem = records.record_length_lem
+
+-- the list ends where no length is named, after 20, 21 and 22, and nowhere else: after 31 it goes on
+pub ends_unnamed : (k : ℕ) → names_length k ≡ not (ends k)
+ends_unnamed k = refl
+
+pub on_after_31 : ends (number_of LayerSequence) ≡ false
+on_after_31 = refl
 
 -- what is read of an input that is not empty, and then, unless the list ends, the readings of what follows the record
 pub goes_on : (xs : List ℕ) → 0 < length xs → GoesOn xs

@@ -106,7 +106,7 @@ whole_ignored xs ys h =
     ∙ chosen xs true (only_fields m) true (complete m) (tests_of s l) refl refl refl
     (sym (le-leb 4 (length xs) (omega arith))) refl (sym (le-leb (record_length m) (length xs) h)) refl refl
 
-rest_ignored : (xs : List ℕ) → RestIgnored xs (read_of xs)
+pub rest_ignored : (xs : List ℕ) → RestIgnored xs (read_of xs)
 rest_ignored xs e ys =
     let n = read_named xs e in
     ap (λ (n : ℕ). read_of (take n xs ++ ys)) n.is ∙ whole_ignored xs ys n.whole

@@ -1,21 +1,28 @@
 -- All that a record has to carry of a section and a load: what the machine's types say, and what the tests say. Assumes nothing.
-use mathlib.Core.Path.{◌≡◌}
-use mathlib.Core.Bool.{true}
-use mathlib.Core.List.{List, [], ◌∷◌}
+use mathlib.Core.Path.{◌≡◌, sym, ap, ◌∙◌}
+use mathlib.Core.Bool.{Bool, true}
+use mathlib.Core.List.{List, [], ◌∷◌, ◌++◌}
 use Prim.Native.Nat.{ℕ, zero, suc, ◌^◌, ◌≤◌, ◌<◌}
 use native.Mathlib.Omega.{arith}
 use lib.Dec.{lit<}
 use lib.ListN.{length, get_or}
 use lib.Signed.{mag}
-use Rattle.std.specs.Prelude.{None}
+use Rattle.std.specs.Prelude.{Option, None}
+use Rattle.std.specs.Option.{option_or}
+use Rattle.refusals.specs.declared.Refusal.{Refusal}
+use Rattle.refusals.specs.declared.Refusal.TheVariants.{LayerSequence}
+use Rattle.refusals.specs.Chain.{test, first_failing}
+use Rattle.refusals.proofs.Chain.{first_of}
 use Rattle.arith.proofs.Test.{both_true}
 use Rattle.section.specs.Section.{counted, layers_of, links_of, all, depth_ok, area_ok, no_layer}
 use Rattle.section.specs.declared.Layer.{Layer}
 use Rattle.section.specs.declared.Section.{Section}
 use Rattle.section.specs.declared.Load.{Load}
+use Rattle.section.specs.Refusals.{section_tests, load_link_tests}
 use Rattle.section.proofs.CountedLinks.{counted-small}
 use Rattle.section.proofs.OneLayer.{layer-ok}
 use Rattle.section.proofs.Usable.{all_passed}
+use Rattle.sequence.specs.Order.{ordered}
 use Rattle.record.specs.declared.fields.Number.{Number}
 use Rattle.record.specs.Layout.{value_of}
 use Rattle.record.proofs.Readings.{tests_of}
@@ -46,7 +53,19 @@ four_bytes h low (y ∷ ls) d a zero =
 four_bytes h low (y ∷ ls) d a (suc j) =
     four_bytes h low ls (both_true (depth_ok h y) (all (depth_ok h) ls) d).1 (both_true (area_ok y) (all area_ok ls) a).1 j
 
-pub carried : (s : Section) (l : Load) → Machine s l → tests_of s l ≡ None → Carried s l
+-- what Write asks of a section, its links and a load; the reader asks the same of layers in their sequence
+abbrev pub asked_of : Section → Load → Option Refusal
+asked_of s l = first_failing (section_tests (counted s) ++ load_link_tests (links_of s) l)
+
+pub asked_in_sequence : (s : Section) (l : Load) → ordered (layers_of s) ≡ true → asked_of s l ≡ tests_of s l
+asked_in_sequence s l e =
+    let tests = section_tests (counted s) in
+    let rest = load_link_tests (links_of s) l in
+    first_of tests rest
+    ∙ ap (λ (t : Bool). option_or (first_failing tests) (option_or (test LayerSequence t) (first_failing rest))) (sym e)
+    ∙ sym (first_of tests (test LayerSequence (ordered (layers_of s)) ∷ rest))
+
+pub carried : (s : Section) (l : Load) → Machine s l → asked_of s l ≡ None → Carried s l
 carried s l m e =
     let p = all_passed s (links_of s) l e in
     let w = p.section.usable in

@@ -11,16 +11,17 @@ use Rattle.std.specs.Prelude.{Option, None, Some}
 use Rattle.std.specs.Option.{option_or}
 use Rattle.arith.proofs.Test.{is_true, both_true, clash}
 use Rattle.refusals.specs.declared.Refusal.{Refusal}
-use Rattle.refusals.specs.declared.Refusal.TheVariants.{MapCut, UnknownField, RecordCut, FieldMissing}
+use Rattle.refusals.specs.declared.Refusal.TheVariants.{MapCut, UnknownField, RecordCut, FieldMissing, LayerSequence}
 use Rattle.refusals.specs.Number.{number_of, number_or_0}
 use Rattle.refusals.specs.Chain.{test, first_failing, OneOf}
-use Rattle.refusals.proofs.Number.{number_small}
-use Rattle.refusals.proofs.Chain.{first_of, passes, among, Among, no_test, first_among, test_among}
-use Rattle.section.specs.Section.{counted, links_of}
+use Rattle.refusals.proofs.Number.{number_small, number_above_0}
+use Rattle.refusals.proofs.Chain.{first_of, both_none, test_passed, passes, among, Among, no_test, first_among, test_among}
+use Rattle.section.specs.Section.{counted, layers_of, links_of}
 use Rattle.section.specs.Refusals.{section_tests, section_refusals, load_link_tests, load_link_refusals}
 use Rattle.section.specs.declared.Section.{Section}
 use Rattle.section.specs.declared.Load.{Load}
 use Rattle.section.proofs.Usable.{section_among, load_link_among}
+use Rattle.sequence.specs.Order.{ordered}
 use Rattle.record.specs.declared.Reading.{Reading}
 use Rattle.record.specs.Map.{stands, record_length, only_fields, complete_to, complete}
 use Rattle.record.specs.Contents.{section_of, load_of}
@@ -28,7 +29,7 @@ use Rattle.record.specs.Refusals.{map_in, map_tests, content_tests, held_tests, 
 use Rattle.record.specs.Read.{accepted_reading, refused_reading, reading_by, read_of}
 use Rattle.record.proofs.Bits.{room, offset_yes}
 
--- ---- by the answers of the tests: 20, 21, 22, 23, and those of the section, the load and the links
+-- ---- by the answers of the tests: 20, 21, 22, 23, and those of the section, its sequence, the load and the links
 abbrev pub by_answers : Bool → Bool → Bool → Bool → ℕ → Section → Load → Option Refusal → Reading
 by_answers a b c d n s l k =
     reading_by n s l (option_or (test MapCut a) (option_or (test UnknownField b) (option_or (test RecordCut c) (option_or (test FieldMissing d) k))))
@@ -54,11 +55,13 @@ widen : {ks rs : List Refusal} (o : Option Refusal) → ((r : Refusal) → OneOf
 widen None f h = record { some = tt }
 widen (Some r) f h = record { some = f r h.some }
 
-pub tests_among : {rs : List Refusal} (s : Section) (l : Load) → ((r : Refusal) → OneOf section_refusals r → OneOf rs r)
+pub tests_among : {rs : List Refusal} (s : Section) (l : Load) → ((r : Refusal) → OneOf section_refusals r → OneOf rs r) → OneOf rs LayerSequence
     → ((r : Refusal) → OneOf load_link_refusals r → OneOf rs r) → Among rs (tests_of s l)
-tests_among {rs} s l f g =
-    rw (first_of (section_tests (counted s)) (load_link_tests (links_of s) l))
-    (first_among (first_failing (section_tests (counted s))) (widen _ f (section_among (counted s))) (widen _ g (load_link_among (links_of s) l)))
+tests_among {rs} s l f m g =
+    let t = ordered (layers_of s) in
+    rw (first_of (section_tests (counted s)) (test LayerSequence t ∷ load_link_tests (links_of s) l))
+    (first_among (first_failing (section_tests (counted s))) (widen _ f (section_among (counted s)))
+    (test_among LayerSequence t m (widen _ g (load_link_among (links_of s) l))))
 
 -- those of the map name no length, and those of the fields and of what they hold do
 map_among : (xs : List ℕ) → Among (MapCut ∷ UnknownField ∷ RecordCut ∷ []) (first_failing (map_tests xs))
@@ -69,13 +72,13 @@ map_among xs =
     test_among RecordCut (leb (record_length m) (length xs)) (record { member = tt }) no_test))
 
 held_refusals : List Refusal
-held_refusals = FieldMissing ∷ (section_refusals ++ load_link_refusals)
+held_refusals = FieldMissing ∷ (section_refusals ++ (LayerSequence ∷ load_link_refusals))
 
 held_among : (m : ℕ) (s : Section) (l : Load) → Among held_refusals (first_failing (held_tests m s l))
 unfolding held_refusals
 held_among m s l =
     test_among FieldMissing (complete m) (record { member = tt }) (
-    tests_among s l (λ r. among held_refusals section_refusals tt) (λ r. among held_refusals load_link_refusals tt))
+    tests_among s l (λ r. among held_refusals section_refusals tt) (record { member = tt }) (λ r. among held_refusals load_link_refusals tt))
 
 -- ---- what is answered, by the first test that fails
 module _ (xs : List ℕ) where
@@ -126,6 +129,22 @@ refusal_is n s l (Some r) = refl
 pub read_refusal : (xs : List ℕ) → (read_of xs).refusal ≡ number_or_0 (first_failing (read_tests xs))
 unfolding read_of
 read_refusal xs = refusal_is (record_length (map_in xs)) (section_of xs (map_in xs)) (load_of xs (map_in xs)) (first_failing (read_tests xs))
+
+-- what is read stands in sequence
+no_number : (o : Option Refusal) → number_or_0 o ≡ 0 → o ≡ None
+no_number None e = refl
+no_number (Some r) e = absurd (omega (arith, number_above_0 r))
+
+pub read_ordered : (xs : List ℕ) → (read_of xs).refusal ≡ 0 → ordered (layers_of (read_of xs).section) ≡ true
+read_ordered xs e =
+    let s = section_of xs (m xs) in
+    let l = load_of xs (m xs) in
+    let none = no_number (first_failing (read_tests xs)) (sym (read_refusal xs) ∙ e) in
+    let both = both_none (first_failing (map_tests xs)) (held xs) (sym (first xs) ∙ none) in
+    let content = (both_none (test FieldMissing (complete (m xs))) (tests_of s l) both.1).1 in
+    let rest = test LayerSequence (ordered (layers_of s)) ∷ load_link_tests (links_of s) l in
+    let after = (both_none (first_failing (section_tests (counted s))) (first_failing rest) (sym (first_of (section_tests (counted s)) rest) ∙ content)).1 in
+    ap (λ (r : Reading). ordered (layers_of r.section)) (sym (none_refused xs both.0 both.1)) ∙ (test_passed LayerSequence (ordered (layers_of s)) _ after).0
 
 pub refusal_small : (xs : List ℕ) → (read_of xs).refusal < 256
 refusal_small xs = rw (read_refusal xs) (small (first_failing (read_tests xs)))

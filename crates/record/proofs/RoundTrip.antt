@@ -15,7 +15,8 @@ use Rattle.std.specs.Prelude.{Option, None, Some}
 use Rattle.refusals.specs.declared.Refusal.{Refusal}
 use Rattle.refusals.specs.Number.{number_or_0}
 use Rattle.refusals.specs.Number as numbers
-use Rattle.refusals.specs.Chain.{first_failing}
+use Rattle.refusals.specs.declared.Refusal.TheVariants.{LayerSequence}
+use Rattle.refusals.specs.Chain.{test, first_failing}
 use Rattle.refusals.proofs.Chain.{both_none}
 use Rattle.arith.specs.Integer.{in_range}
 use Rattle.arith.proofs.Test.{clash, both_true, and_true}
@@ -25,6 +26,10 @@ use Rattle.section.specs.declared.Layer.{Layer}
 use Rattle.section.specs.declared.Links.{Links}
 use Rattle.section.specs.declared.Section.{Section}
 use Rattle.section.specs.declared.Load.{Load}
+use Rattle.sequence.specs.Order.{ordered, sorted, sequenced_layers}
+use Rattle.sequence.specs.Code.Sorting.{sequenced_section}
+use Rattle.sequence.proofs.Order.{sorted-ordered, sequence_same}
+use Rattle.sequence.proofs.Sorting.{length-first, counted_with, counted-sequenced}
 use Rattle.record.specs.declared.Written.{Written}
 use Rattle.record.specs.declared.fields.Number.{Number}
 use Rattle.record.specs.declared.fields.Field.{Field}
@@ -35,17 +40,18 @@ use Rattle.record.specs.Fields.{width, field_of, link_bit, layer_bit, must_stand
 use Rattle.record.specs.Contents.{number_of, links_at, links_in, layer_at, layers_to, filled, section_with, load_with, section_of, load_of}
 use Rattle.record.specs.Layout.{value_of, field_bytes, writes, map_of, fields_to, fields, record_of}
 use Rattle.record.specs.Refusals.{map_in, write_tests}
-use Rattle.record.specs.Read.{read_of}
-use Rattle.record.specs.Write.{written_by, changed_by, written_of, buffer_of}
-use Rattle.record.specs.RoundTrip.{cleared, read_back, ReadsBack}
+use Rattle.record.specs.Read.{accepted_reading, read_of}
+use Rattle.record.specs.Write.{written_by, changed_by, record_written, written_of, buffer_of}
+use Rattle.record.specs.RoundTrip.{read_back, ReadsBack}
+use Rattle.section.proofs.Rearranged.{tests_same}
 use Rattle.section.proofs.CountedLinks.{counted_none, counted_some, counted-absent, counted_twice}
 use Rattle.record.proofs.Digits.{length_bytes, number_at-bytes_of, signed-unsigned, unsigned-fits}
-use Rattle.record.proofs.Passed.{Machine, Carried, carried}
+use Rattle.record.proofs.Passed.{Machine, Carried, asked_of, asked_in_sequence, carried}
 use Rattle.record.proofs.Places.{layers_yes, layers_no}
-use Rattle.record.proofs.Readings.{tests_of, chosen}
+use Rattle.record.proofs.Readings.{chosen}
 use Rattle.record.proofs.Table.{layer_field, within}
 use Rattle.record.proofs.Writes.{write-first}
-use Rattle.record.proofs.Writing.{stands-written, map-small, length_field, fields_yes, length_fields, length_record}
+use Rattle.record.proofs.Writing.{stands-written, map-small, map_sequenced, length_field, fields_yes, length_fields, length_record}
 
 -- a range of one number
 only_one : (d z : ℤ) → in_range d d z ≡ true → d ≡ z
@@ -255,20 +261,20 @@ module _ (s : Section) (l : Load) (q : List ℕ) where
   long_enough : record_length M ≤ length X
   long_enough = omega (arith, length_record c links l, length-append (record_of c links l) q)
 
--- ---- the section that is read: what is counted of it is what was written
+-- ---- the section that is read as its layers stand: what is counted of it is what was written
+abbrev standing : Section → Section
+standing s = record { layers = filled (layers_of s); width = s.width; height = s.height; grade = s.grade; links = links_of s; count = s.count }
+
 module _ (s : Section) (l : Load) (ok : Carried s l) where
   all-counted : length (layers_of s) ≡ s.count
   all-counted = length-take-le s.count s.layers (omega (arith, ok.machine.places, ok.few))
 
-  same_counted : counted (cleared s) ≡ counted s
+  same_counted : counted (standing s) ≡ counted s
   unfolding filled
   same_counted =
-      ap (λ (ls : List Layer). counted_of ls) (take_at (layers_of s) (replicate (16 - length (layers_of s)) no_layer) s.count all-counted)
-    where
-      counted_of : List Layer → Counted
-      counted_of ls = record { width = s.width; height = s.height; grade = s.grade; count = s.count; layers = ls }
+      ap (λ (ls : List Layer). counted_with s ls) (take_at (layers_of s) (replicate (16 - length (layers_of s)) no_layer) s.count all-counted)
 
-  section_back : (q : List ℕ) → cleared s ≡ section_of (X s l q) (M s l q)
+  section_back : (q : List ℕ) → standing s ≡ section_of (X s l q) (M s l q)
   unfolding section_of
   section_back q =
       let ls = layers_back s l q ok all-counted 16 (le_refl 16) ∙ take_all 16 (layers_of s) (omega (arith, all-counted, ok.few)) in
@@ -281,31 +287,64 @@ module _ (s : Section) (l : Load) (ok : Carried s l) where
   unfolding load_of
   load_back q = sym (λ i. load_with (λ k. number_back s l q ok k i))
 
--- a record, and any bytes after it
-pub record_back : (s : Section) (l : Load) (q : List ℕ) → Machine s l → tests_of s l ≡ None
-    → read_back s l (record_length (map_of (counted s) (links_of s) l)) ≡ read_of (record_of (counted s) (links_of s) l ++ q)
-record_back s l q machine passed =
+-- the record of a section whose layers stand in their sequence, and any bytes after it
+standing_back : (s : Section) (l : Load) (q : List ℕ) → Machine s l → asked_of s l ≡ None → ordered (layers_of s) ≡ true
+    → accepted_reading (record_length (M s l q)) (standing s) l ≡ read_of (X s l q)
+standing_back s l q machine passed up =
     let ok = carried s l machine passed in
     let m = M s l q in
     let xs = X s l q in
     let long = long_enough s l q in
-    let r = sym passed
-    ∙ (λ i. first_failing (section_tests (sym (same_counted s l ok) i) ++ load_link_tests (sym (counted_twice s.links) i) l)) in
+    let tests : Counted → Links → Option Refusal =
+    λ c k. first_failing (section_tests c ++ (test LayerSequence (ordered c.layers) ∷ load_link_tests k l)) in
+    let r = sym passed ∙ asked_in_sequence s l up ∙ (λ i. tests (sym (same_counted s l ok) i) (sym (counted_twice s.links) i)) in
     chosen xs true true true true None (map_back s l q) (section_back s l ok q) (load_back s l ok q)
     (sym (le-leb 4 (length xs) (omega arith))) (sym (only_fields_back s l q)) (sym (le-leb (record_length m) (length xs) long)) (sym (complete_back s l q)) r
 
+-- ---- of any section, with its layers put in their sequence
+module _ (s : Section) (l : Load) (machine : Machine s l) (passed : asked_of s l ≡ None) where
+  abbrev sequenced : Section
+  sequenced = sequenced_section s
+
+  sequenced_is : counted sequenced ≡ sequenced_layers (counted s)
+  sequenced_is = counted-sequenced s
+
+  same_machine : Machine sequenced l
+  same_machine = record { places = length-first s.count s.layers ∙ machine.places; numbers = machine.numbers }
+
+  same_asked : asked_of sequenced l ≡ None
+  same_asked =
+      (λ i. first_failing (section_tests (sequenced_is i) ++ load_link_tests (links_of s) l))
+      ∙ sym (λ i. first_failing (tests_same (sequence_same (counted s)) i ++ load_link_tests (links_of s) l)) ∙ passed
+
+  in_sequence : ordered (layers_of sequenced) ≡ true
+  in_sequence = ap (λ (c : Counted). ordered c.layers) sequenced_is ∙ sorted-ordered (layers_of s)
+
+  pub record_back : (q : List ℕ)
+      → read_back s l (record_length (map_of (counted s) (links_of s) l)) ≡ read_of (record_written (counted s) (links_of s) l ++ q)
+  record_back q =
+      sym ((λ i. accepted_reading (record_length (map_of (sequenced_is i) (links_of s) l)) (filled_with (sequenced_is i).layers) l)
+      ∙ (λ i. accepted_reading (record_length (map_sequenced (counted s) (links_of s) l i)) (filled_with (sorted (layers_of s))) l))
+      ∙ standing_back sequenced l q same_machine same_asked in_sequence
+      ∙ (λ i. read_of (record_of (sequenced_is i) (links_of s) l ++ q))
+    where
+      filled_with : List Layer → Section
+      filled_with ls = record { layers = filled ls; width = s.width; height = s.height; grade = s.grade; links = links_of s; count = s.count }
+
 -- a refusal's number is not 0
-some_number : (r : Refusal) → numbers.number_of r ≡ 0 → ⊥
+pub some_number : (r : Refusal) → numbers.number_of r ≡ 0 → ⊥
 some_number r e = grind arith
 
 -- the buffer of a write that was accepted, read afterwards
 round_trip : (s : Section) (l : Load) (buf : List ℕ) → Machine s l → (k : Option Refusal) → first_failing (write_tests (counted s) (links_of s) l buf) ≡ k
-    → ReadsBack s l (written_by (record_length (map_of (counted s) (links_of s) l)) k) (changed_by (record_of (counted s) (links_of s) l) buf k)
+    → ReadsBack s l (written_by (record_length (map_of (counted s) (links_of s) l)) k)
+    (changed_by (record_written (counted s) (links_of s) l) buf k)
 round_trip s l buf machine (Some r) e z = absurd (some_number r z)
 round_trip s l buf machine None e z =
     let c = counted s in
     let links = links_of s in
-    sym (record_back s l (drop (length (record_of c links l)) buf) machine (both_none (tests_of s l) _ (sym (write-first c links l buf) ∙ e)).0)
+    let passed = both_none (asked_of s l) _ (sym (write-first c links l buf) ∙ e) in
+    sym (record_back s l machine passed.0 (drop (length (record_written c links l)) buf))
 
 written_refusal : (n : ℕ) (k : Option Refusal) → (written_by n k).refusal ≡ number_or_0 k
 written_refusal n None = refl

@@ -17,6 +17,7 @@ use Rattle.section.specs.Section.{Counted}
 use Rattle.section.specs.Refusals.{section_tests, load_link_tests}
 use Rattle.section.specs.declared.Links.{Links}
 use Rattle.section.specs.declared.Load.{Load}
+use Rattle.sequence.specs.Order.{sequenced_layers}
 use Rattle.record.specs.Bytes.{bytes_of, placed}
 use Rattle.record.specs.Map.{record_length}
 use Rattle.record.specs.Layout.{map_of, fields, record_of}
@@ -24,10 +25,15 @@ use Rattle.record.specs.Refusals.{write_tests}
 use Rattle.record.specs.Write.{written_as, written_of, buffer_of}
 use Rattle.record.proofs.Digits.{length_bytes}
 use Rattle.record.proofs.Lent.{placed_more}
+use Rattle.record.proofs.Writing.{map_sequenced}
 
 module _ (c : Counted) (links : Links) (l : Load) (buf : List ℕ) where
   abbrev k : Option Refusal
   k = first_failing (section_tests c ++ load_link_tests links l)
+
+  -- what is written
+  abbrev d : Counted
+  d = sequenced_layers c
 
   abbrev fits : Bool
   fits = leb (record_length (map_of c links l)) (length buf)
@@ -56,19 +62,19 @@ module _ (c : Counted) (links : Links) (l : Load) (buf : List ℕ) where
 
   -- the map and the fields, written one after the other, are the record
   whole_record : 4 ≤ length buf
-      → placed (placed buf 0 (bytes_of 4 (map_of c links l))) 4 (fields c links l) ≡ record_of c links l ++ drop (length (record_of c links l)) buf
+      → placed (placed buf 0 (bytes_of 4 (map_of d links l))) 4 (fields d links l) ≡ record_of d links l ++ drop (length (record_of d links l)) buf
   unfolding record_of placed
   whole_record h =
-      let B = bytes_of 4 (map_of c links l) in
-      let four : 4 ≡ 0 + length B = omega (arith, length_bytes 4 (map_of c links l)) in
+      let B = bytes_of 4 (map_of d links l) in
+      let four : 4 ≡ 0 + length B = omega (arith, length_bytes 4 (map_of d links l)) in
       let room : 0 + length B ≤ length buf = omega arith in
-      ap (λ (k : ℕ). placed (placed buf 0 B) k (fields c links l)) four
-      ∙ placed_more buf 0 B (fields c links l) room
-      ∙ ap (λ (k : ℕ). (B ++ fields c links l) ++ drop k buf) (zero-add (length (B ++ fields c links l)))
+      ap (λ (k : ℕ). placed (placed buf 0 B) k (fields d links l)) four
+      ∙ placed_more buf 0 B (fields d links l) room
+      ∙ ap (λ (k : ℕ). (B ++ fields d links l) ++ drop k buf) (zero-add (length (B ++ fields d links l)))
 
-  -- none fails: the length, and the bytes
-  pub done : (m n : ℕ) → m ≡ map_of c links l → n ≡ record_length m → k ≡ None → fits ≡ true → 4 ≤ length buf
-      → Answered (Ok n) (placed (placed buf 0 (bytes_of 4 m)) 4 (fields c links l))
+  -- none fails: the length, and the bytes of the section with its layers in sequence
+  pub done : (m n : ℕ) → m ≡ map_of d links l → n ≡ record_length m → k ≡ None → fits ≡ true → 4 ≤ length buf
+      → Answered (Ok n) (placed (placed buf 0 (bytes_of 4 m)) 4 (fields d links l))
   done m n em en e h four =
       let none : first_failing (write_tests c links l buf) ≡ None = write-first ∙ rw (e, h) in
-      record { value = rw (none, en, em); lent = rw (none, em) (whole_record four) }
+      record { value = rw (none, en, em, map_sequenced c links l); lent = rw (none, em) (whole_record four) }

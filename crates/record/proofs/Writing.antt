@@ -11,6 +11,7 @@ use lib.ListN.{length, get_or, length-append}
 use Rattle.section.specs.Section.{Counted, no_layer}
 use Rattle.section.specs.declared.Links.{Links}
 use Rattle.section.specs.declared.Load.{Load}
+use Rattle.sequence.specs.Order.{sequenced_layers}
 use Rattle.record.specs.declared.fields.Field.{Field}
 use Rattle.record.specs.declared.fields.Field.TheVariants.{Must, May, LinkPair, LayerAt, Unused}
 use Rattle.record.specs.Bytes.{bytes_of}
@@ -37,6 +38,11 @@ module _ (c : Counted) (links : Links) (l : Load) where
   pub map-small : map_of c links l < 2 ^ width
   unfolding map_of
   map-small = map_below written width
+
+  -- it says how many the layers are, and not which
+  pub map_sequenced : map_of (sequenced_layers c) links l ≡ map_of c links l
+  unfolding map_of
+  map_sequenced = refl
 
   pub stands-written : (k : ℕ) → k < width → stands (map_of c links l) k ≡ writes c links l (field_of k)
   unfolding map_of

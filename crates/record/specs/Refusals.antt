@@ -1,15 +1,16 @@
--- When Read a record and Write a record are turned down: document 01, and 02's tickets 3, 8 and 10. The sequence of each is a list of
+-- When Read a record and Write a record are turned down: document 01, and 02's tickets 3, 6, 8 and 10. The sequence of each is a list of
 -- tests, in the documents' order; the first that fails gives the refusal. The section tests, the load tests and those of the links stand
 -- on the page `Refusals` of the section. Assumes nothing.
 use Rattle.std.specs.Prelude.{ℕ, Bool, not, List, [], ◌∷◌, ◌++◌, leb, length, Option}
 use Rattle.refusals.specs.Chain.{test, is_number_of}
 use Rattle.refusals.specs.declared.Refusal.{Refusal}
-use Rattle.refusals.specs.declared.Refusal.TheVariants.{MapCut, UnknownField, RecordCut, FieldMissing, BufferTooShort}
-use Rattle.section.specs.Section.{Counted, counted, links_of}
+use Rattle.refusals.specs.declared.Refusal.TheVariants.{MapCut, UnknownField, RecordCut, FieldMissing, BufferTooShort, LayerSequence}
+use Rattle.section.specs.Section.{Counted, counted, layers_of, links_of}
 use Rattle.section.specs.Refusals.{section_tests, section_refusals, load_link_tests, load_link_refusals}
 use Rattle.section.specs.declared.Links.{Links}
 use Rattle.section.specs.declared.Section.{Section}
 use Rattle.section.specs.declared.Load.{Load}
+use Rattle.sequence.specs.Order.{ordered}
 use Rattle.record.specs.Bytes.{number_at}
 use Rattle.record.specs.Map.{record_length, only_fields, complete}
 use Rattle.record.specs.Contents.{section_of, load_of}
@@ -31,9 +32,13 @@ map_tests xs =
     ∷ test RecordCut (leb (record_length (map_in xs)) (length xs))
     ∷ []
 
--- of a section, its links and a load
+-- of a section that is read, its links and a load
 abbrev pub content_tests : Section → Load → List (Option Refusal)
-content_tests s l = section_tests (counted s) ++ load_link_tests (links_of s) l
+content_tests s l =
+    section_tests (counted s)
+    -- 31 layers not in their sequence on disk: after 7, and in the reader only
+    ++ (test LayerSequence (ordered (layers_of s))
+    ∷ load_link_tests (links_of s) l)
 
 -- of its fields, and of what they hold
 abbrev pub held_tests : ℕ → Section → Load → List (Option Refusal)
@@ -47,7 +52,7 @@ read_tests xs = map_tests xs ++ held_tests (map_in xs) (section_of xs (map_in xs
 
 -- the refusals that these tests have
 abbrev pub read_refusals : List Refusal
-read_refusals = MapCut ∷ UnknownField ∷ RecordCut ∷ FieldMissing ∷ (section_refusals ++ load_link_refusals)
+read_refusals = MapCut ∷ UnknownField ∷ RecordCut ∷ FieldMissing ∷ (section_refusals ++ (LayerSequence ∷ load_link_refusals))
 
 -- "the length is answered, for 20 to 22 as 0": of a refusal's number, 0 for none
 abbrev pub names_length : ℕ → Bool

@@ -1,17 +1,19 @@
--- What reading back a written record yields, demand 2: document 01, "What the engine covers" and "The record"; 02's tickets 3, 8 and 10. Assumes nothing.
+-- What reading back a written record yields, demand 2: document 01, "What the engine covers" and "The record"; 02's tickets 3, 6, 8 and
+-- 10. Assumes nothing.
 use Rattle.std.specs.Prelude.{ℕ, List, ◌≡◌}
 use Rattle.section.specs.Section.{layers_of, links_of}
 use Rattle.section.specs.declared.Section.{Section}
 use Rattle.section.specs.declared.Load.{Load}
+use Rattle.sequence.specs.Order.{sorted}
 use Rattle.record.specs.declared.Reading.{Reading}
 use Rattle.record.specs.declared.Written.{Written}
 use Rattle.record.specs.Contents.{filled}
 use Rattle.record.specs.Read.{read_of}
 
--- the same section, its counted layers in the same sequence, with zeros beyond the count; the same links, absent ones with zeros
+-- the same section, its counted layers in their sequence on disk, with zeros beyond the count; the same links, absent ones with zeros
 abbrev pub cleared : Section → Section
 cleared s =
-    record { layers = filled (layers_of s); width = s.width; height = s.height; grade = s.grade; links = links_of s; count = s.count }
+    record { layers = filled (sorted (layers_of s)); width = s.width; height = s.height; grade = s.grade; links = links_of s; count = s.count }
 
 -- no refusal, the length n, that section and the same load
 abbrev pub read_back : Section → Load → ℕ → Reading

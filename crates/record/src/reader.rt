@@ -1,4 +1,4 @@
-// Read a record: document 01, "When a call is turned down".
+// Read a record: document 01, "When a call is turned down", and 02's ticket 6.
 ghost use Rattle.std.specs.Prelude.{true, ◌≡◌, ◌+◌, ◌<◌, ◌≤◌, [], length, pos, IfOk};
 ghost use Rattle.std.specs.Result.{result_err};
 ghost use Rattle.refusals.specs.Number.{number_or_0};
@@ -18,8 +18,9 @@ use super::fields::{LINKS, field_of, missing_value};
 use super::map::{bit_stands, field_offset, is_complete, only_fields, record_length};
 use materials::Grade;
 use refusals::Refusal;
-use section::acceptance::{no_links, test_record};
+use section::acceptance::{accept, counted_links, no_links, test_load_and_links};
 use section::{Layer, Links, Load, Section};
+use sequence::in_sequence;
 
 // The layer whose eight bytes begin at `at`.
 fn layer(s: &[u8], at: usize) -> Layer
@@ -198,12 +199,14 @@ impl From<Result<Record, Refused>> for Reading {
     }
 }
 
-// The test 23, and then the section tests, the load tests and those of the links.
+// The test 23, then the section tests, 31, which is asked here only, the load tests and those of the links.
 fn test_held(map: u32, r: &Record) -> Result<(), Refusal>
     ensures { result_err result ≡ first_failing (held_tests map r.now.section r.now.load) }
 {
     Refusal::FieldMissing.unless(is_complete(map))?;
-    test_record(&r.section, &r.load)
+    accept(&r.section)?;
+    Refusal::LayerSequence.unless(in_sequence(r.section))?;
+    test_load_and_links(&counted_links(r.section.links), &r.load)
 }
 
 // A refusal by the tests of the map, 20 to 22, answers no length, and one by those after them does.
@@ -217,7 +220,8 @@ fn record_in(bytes: &[u8]) -> Result<Record, Refused>
     Ok(record)
 }
 
-// The record that the bytes begin with, or why there is none: 20, 21, 22, 23, then the section tests, the load tests and those of the links.
+// The record that the bytes begin with, or why there is none: 20, 21, 22, 23, then the section tests, 31, the load tests and those of the
+// links.
 pub fn read(bytes: &[u8]) -> Reading
     ensures value { result ≡ read_of bytes.now }
     ensures refusal { result.refusal ≡ number_or_0 (first_failing (read_tests bytes.now)) }

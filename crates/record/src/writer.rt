@@ -1,4 +1,4 @@
-// Write a record: document 01, "When a call is turned down".
+// Write a record: document 01, "When a call is turned down", and 02's ticket 6.
 ghost use Rattle.std.specs.Prelude.{true, ◌≡◌, ◌<◌, ◌≤◌, ◌++◌, length};
 ghost use Rattle.refusals.specs.Number.{number_or_0};
 ghost use Rattle.refusals.specs.Chain.{first_failing};
@@ -16,6 +16,7 @@ use super::map::{bit_stands, record_length};
 use refusals::Refusal;
 use section::acceptance::test_record;
 use section::{Load, Section};
+use sequence::sequenced;
 
 // The bytes of two numbers, one after the other.
 fn pair_bytes(x: u32, y: u32) -> [u8; 8]
@@ -112,14 +113,16 @@ impl Content<'_> {
     }
 }
 
-// The record at the start of the buffer, and its length; or the refusal, the section tests, the load tests, those of the links, then 25.
+// The record at the start of the buffer, its layers in sequence, and its length; or the refusal, the section tests, the load tests, those of the links,
+// then 25.
 fn put_record(s: &Section, l: &Load, buffer: &mut [u8]) -> Result<usize, Refusal>
     ensures value { written_as result ≡ written_of (counted s.now) (links_of s.now) l.now buffer.old }
     ensures lent { buffer.new ≡ buffer_of (counted s.now) (links_of s.now) l.now buffer.old }
 {
     test_record(s, l)?;
+    let section = sequenced(*s);
     let content = Content {
-        section: s,
+        section: &section,
         load: l,
     };
     let map = content.map();
@@ -130,7 +133,7 @@ fn put_record(s: &Section, l: &Load, buffer: &mut [u8]) -> Result<usize, Refusal
     Ok(length)
 }
 
-// The record at the start of the buffer; or the refusal, and no byte changed.
+// The record at the start of the buffer, whatever the sequence of the layers in hand; or the refusal, and no byte changed.
 pub fn write(s: Section, l: Load, buffer: &mut [u8]) -> Written
     ensures value { result ≡ written_of (counted s) (links_of s) l buffer.old }
     ensures lent { buffer.new ≡ buffer_of (counted s) (links_of s) l buffer.old }

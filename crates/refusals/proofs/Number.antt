@@ -5,7 +5,8 @@ use Rattle.refusals.specs.declared.Refusal.{Refusal}
 use Rattle.refusals.specs.declared.Refusal.TheVariants.{Width, Height, ConcreteClass, SteelStrength, LayerCount, LayerDepth, LayerArea}
 use Rattle.refusals.specs.declared.Refusal.TheVariants.{AxialForce, BendingMoment, ShearForce}
 use Rattle.refusals.specs.declared.Refusal.TheVariants.{ForceTooLow, ForceTooHigh, DepthRange, MapCut, UnknownField, RecordCut, FieldMissing}
-use Rattle.refusals.specs.declared.Refusal.TheVariants.{BufferTooShort, InputTooLong, LinkArea, LinkSpacing, LinksUnderForce, DesignSituation, LongTermFactor}
+use Rattle.refusals.specs.declared.Refusal.TheVariants.{BufferTooShort, InputTooLong, LinkArea, LinkSpacing, LinksUnderForce, LayerSequence}
+use Rattle.refusals.specs.declared.Refusal.TheVariants.{DesignSituation, LongTermFactor}
 use Rattle.refusals.specs.Number.{number_of}
 
 pub number_small : (r : Refusal) → number_of r < 256
@@ -31,6 +32,7 @@ number_small InputTooLong = lit< tt
 number_small LinkArea = lit< tt
 number_small LinkSpacing = lit< tt
 number_small LinksUnderForce = lit< tt
+number_small LayerSequence = lit< tt
 number_small DesignSituation = lit< tt
 number_small LongTermFactor = lit< tt
 
@@ -57,5 +59,6 @@ number_above_0 InputTooLong = lit< tt
 number_above_0 LinkArea = lit< tt
 number_above_0 LinkSpacing = lit< tt
 number_above_0 LinksUnderForce = lit< tt
+number_above_0 LayerSequence = lit< tt
 number_above_0 DesignSituation = lit< tt
 number_above_0 LongTermFactor = lit< tt

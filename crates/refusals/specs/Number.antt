@@ -1,10 +1,11 @@
--- The documents' number of each refusal: document 01, "When a call is turned down", and 02's tickets 3, 8 and 10. Assumes nothing.
+-- The documents' number of each refusal: document 01, "When a call is turned down", and 02's tickets 3, 6, 8 and 10. Assumes nothing.
 use Rattle.std.specs.Prelude.{ℕ, Option, None, Some, Result, Ok, Err}
 use Rattle.refusals.specs.declared.Refusal.{Refusal}
 use Rattle.refusals.specs.declared.Refusal.TheVariants.{Width, Height, ConcreteClass, SteelStrength, LayerCount, LayerDepth, LayerArea}
 use Rattle.refusals.specs.declared.Refusal.TheVariants.{AxialForce, BendingMoment, ShearForce}
 use Rattle.refusals.specs.declared.Refusal.TheVariants.{ForceTooLow, ForceTooHigh, DepthRange, MapCut, UnknownField, RecordCut, FieldMissing}
-use Rattle.refusals.specs.declared.Refusal.TheVariants.{BufferTooShort, InputTooLong, LinkArea, LinkSpacing, LinksUnderForce, DesignSituation, LongTermFactor}
+use Rattle.refusals.specs.declared.Refusal.TheVariants.{BufferTooShort, InputTooLong, LinkArea, LinkSpacing, LinksUnderForce, LayerSequence}
+use Rattle.refusals.specs.declared.Refusal.TheVariants.{DesignSituation, LongTermFactor}
 
 abbrev pub number_of : Refusal → ℕ
 number_of Width = 1
@@ -29,6 +30,7 @@ number_of InputTooLong = 26
 number_of LinkArea = 27
 number_of LinkSpacing = 28
 number_of LinksUnderForce = 29
+number_of LayerSequence = 31
 number_of DesignSituation = 32
 number_of LongTermFactor = 34
 

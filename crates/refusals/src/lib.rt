@@ -1,4 +1,4 @@
-// Why a call is turned down: document 01, "When a call is turned down", and 02's tickets 3, 8 and 10. A refusal has a name here and a number there.
+// Why a call is turned down: document 01, "When a call is turned down", and 02's tickets 3, 6, 8 and 10. A refusal has a name here and a number there.
 
 #![tactic(auto)]
 
@@ -54,6 +54,8 @@ pub enum Refusal {
     LinkSpacing = 28,
     // links present and N not 0
     LinksUnderForce = 29,
+    // layers of a record not in their sequence on disk
+    LayerSequence = 31,
     // situation other than 1 or 2
     DesignSituation = 32,
     // αcc outside 0.80 to 1.00

@@ -90,7 +90,7 @@ link_tests k l =
 abbrev pub link_refusals : List Refusal
 link_refusals = LinkArea ∷ LinkSpacing ∷ LinksUnderForce ∷ []
 
--- 8 9 10 and 27 28 29: what Check, Read a record and Write a record ask after the section tests
+-- 8 9 10 and 27 28 29: what Check, Read a record and Write a record ask after the section tests (Read a record asks 31 between)
 abbrev pub load_link_tests : Links → Load → List (Option Refusal)
 load_link_tests k l = load_tests l ++ link_tests k l
 

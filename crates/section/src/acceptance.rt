@@ -140,7 +140,7 @@ fn test_links(k: &Links, l: &Load) -> Result<(), Refusal>
     Refusal::LinksUnderForce.unless(l.n == 0)
 }
 
-// The load tests and then those of the links: what Check, Read a record and Write a record ask.
+// The load tests and then those of the links: what Check, Read a record and Write a record ask last of what they are given.
 pub fn test_load_and_links(k: &Links, l: &Load) -> Result<(), Refusal>
     ensures { result_err result ≡ first_failing (load_link_tests k.now l.now) }
 {
@@ -148,7 +148,7 @@ pub fn test_load_and_links(k: &Links, l: &Load) -> Result<(), Refusal>
     test_links(k, l)
 }
 
-// All that a record asks of a section, its links and a load: the section tests, the load tests, those of the links.
+// What Write a record asks of a section, its links and a load before it looks at the buffer: the section tests, the load tests, those of the links.
 pub fn test_record(s: &Section, l: &Load) -> Result<(), Refusal>
     ensures { result_err result ≡ first_failing (section_tests (counted s.now) ++ load_link_tests (links_of s.now) l.now) }
 {

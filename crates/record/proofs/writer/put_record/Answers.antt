@@ -14,13 +14,15 @@ use Rattle.refusals.specs.declared.Refusal.TheVariants.{BufferTooShort}
 use Rattle.refusals.proofs.Exits.{passed, refused}
 use Rattle.section.specs.Section.{counted, links_of}
 use Rattle.section.proofs.Usable.{all_passed}
+use Rattle.sequence.specs.Order.{sequenced_layers}
 use Rattle.record.specs.Bytes.{placed}
 use Rattle.record.specs.Map.{record_length}
 use Rattle.record.specs.Layout.{map_of, fields}
 use Rattle.record.specs.Write.{written_as}
 use Rattle.record.proofs.Digits.{to_four}
 use Rattle.record.proofs.Named.{returned}
-use Rattle.record.proofs.Readings.{tests_of}
+use Rattle.record.proofs.Passed.{asked_of}
+use Rattle.record.proofs.Writing.{map_sequenced}
 use Rattle.record.proofs.Writes.{Answered, by_tests, by_length, done}
 use Rattle.record.proofs.writer.put_record.Goals as goal
 use Rattle.record.proofs.writer.put_record.Goals.{After-test_record, After-unless}
@@ -31,7 +33,7 @@ module _ (c : After-test_record) where
       → Answered (counted c.args.s.now) (links_of c.args.s.now) c.args.l.now c.args.buffer.now (Err r) c.args.buffer.now
   answered was = by_tests (counted c.args.s.now) (links_of c.args.s.now) c.args.l.now c.args.buffer.now (sym c.test_record.ensures ∙ ap result_err was)
 
-  none_fails : {x : Unit {0}} → c.test_record.result ≡ Ok x → tests_of c.args.s.now c.args.l.now ≡ None
+  none_fails : {x : Unit {0}} → c.test_record.result ≡ Ok x → asked_of c.args.s.now c.args.l.now ≡ None
   none_fails was = sym c.test_record.ensures ∙ ap result_err was
 
 pub returns-in_err-test_record-clause-value : goal.returns-in_err-test_record-clause-value
@@ -47,12 +49,15 @@ pub invariant_of-content : goal.invariant_of-content
 invariant_of-content c =
     let s = c.args.s.now in
     let e = none_fails (goal.at.invariant_of-content c).After-test_record c.in_ok-test_record.was in
-    record { few = (all_passed s (links_of s) c.args.l.now e).section.usable.count_high }
+    record { few = rw c.sequenced-section.ensures.value (all_passed s (links_of s) c.args.l.now e).section.usable.count_high }
 
--- the length is that of the record, and its test
+-- the map and the length are those of the record, and its test
 module _ (c : After-unless) where
+  map_is : c.map-map.result ≡ map_of (sequenced_layers (counted c.args.s.now)) (links_of c.args.s.now) c.args.l.now
+  map_is = c.map-map.ensures ∙ (λ i. map_of (c.sequenced-section.ensures.counted i) (links_of (c.sequenced-section.ensures.value i)) c.args.l.now)
+
   length_is : c.record_length-length.result ≡ record_length (map_of (counted c.args.s.now) (links_of c.args.s.now) c.args.l.now)
-  length_is = c.record_length-length.ensures ∙ ap record_length c.map-map.ensures
+  length_is = c.record_length-length.ensures ∙ ap record_length (map_is ∙ map_sequenced (counted c.args.s.now) (links_of c.args.s.now) c.args.l.now)
 
   fits_as : {t : Bool} → leb c.record_length-length.result (length c.args.buffer.now) ≡ t
       → leb (record_length (map_of (counted c.args.s.now) (links_of c.args.s.now) c.args.l.now)) (length c.args.buffer.now) ≡ t
@@ -82,11 +87,13 @@ returns c =
     let u = (goal.at.returns c).After-unless in
     let fits = passed _ c.unless.ensures c.in_ok-unless.was in
     let long = leb-true c.record_length-length.result (length xs) fits in
-    let a = done (counted s) (links_of s) l xs c.map-map.result c.record_length-length.result c.map-map.ensures c.record_length-length.ensures
+    let a = done (counted s) (links_of s) l xs c.map-map.result c.record_length-length.result (map_is u) c.record_length-length.ensures
     (none_fails (goal.at.returns c).After-test_record c.in_ok-test_record.was) (fits_as u fits) (omega (arith, c.record_length-length.ensures)) in
     record {
       value = a.value;
       lent = c.put_fields.ensures
-          ∙ ap (λ (ys : List ℕ). placed ys 4 (fields (counted s) (links_of s) l)) (c.put.ensures ∙ ap (placed xs 0) (c.to_be_bytes.ensures ∙ to_four c.map-map.result))
+          ∙ (λ i. placed c.put.new.buffer 4 (fields (c.sequenced-section.ensures.counted i) (links_of (c.sequenced-section.ensures.value i)) l))
+          ∙ ap (λ (ys : List ℕ). placed ys 4 (fields (sequenced_layers (counted s)) (links_of s) l))
+          (c.put.ensures ∙ ap (placed xs 0) (c.to_be_bytes.ensures ∙ to_four c.map-map.result))
           ∙ a.lent;
     }
