@@ -59,7 +59,8 @@ pub struct Report {
 }
 
 // The documents' numbers for each case of the answer: the refusal, 0 for none, what is reported, and the verdicts in their
-// sequence, 0 pass, 1 fail, 2 not reached. A refusal has zeros and 2s. C is given it so, and the list prints it: no Result and no names.
+// sequence, 0 pass, 1 fail, 2 not reached. A refusal has zeros and 2s. C is given it so, and the list prints it: no Result and no names. (The figures
+// are those of a `Report`, one by one: C is given them flat, and a struct of them would be one name more in each law of a depth or an area.)
 #[repr(C)]
 #[derive(Clone, Copy)]
 pub struct Listed {

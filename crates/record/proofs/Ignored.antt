@@ -112,5 +112,6 @@ rest_ignored xs e ys =
     ap (λ (n : ℕ). read_of (take n xs ++ ys)) n.is ∙ whole_ignored xs ys n.whole
 
 -- the other clauses of `read` follow from its first
-pub read_clauses : (xs : List ℕ) {r : Reading} → r ≡ read_of xs → (r ≡ read_of xs) × ((r.refusal ≡ number_or_0 (first_failing (read_tests xs))) × RestIgnored xs r)
+pub read_clauses : (xs : List ℕ) {r : Reading} → r ≡ read_of xs
+    → (r ≡ read_of xs) × ((r.refusal ≡ number_or_0 (first_failing (read_tests xs))) × RestIgnored xs r)
 read_clauses xs {r} e = (e, (ap (λ (r : Reading). r.refusal) e ∙ read_refusal xs, subst (RestIgnored xs) (sym e) (rest_ignored xs)))

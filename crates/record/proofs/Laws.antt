@@ -2,6 +2,7 @@
 use mathlib.Core.Path.{◌≡◌, refl, sym, ap, ◌∙◌}
 use mathlib.Core.List.{List, [], ◌∷◌, ◌++◌}
 use Prim.Native.Nat.{ℕ, ◌-◌, ◌≤◌}
+use native.Mathlib.Omega.{arith}
 use lib.Dec.{leb}
 use lib.ListN.{length, take, drop, replicate}
 use lib.Seq.{length-take-le, take_at}
@@ -9,6 +10,7 @@ use Rattle.std.specs.Prelude.{Option, None, Some}
 use Rattle.refusals.specs.declared.Refusal.{Refusal}
 use Rattle.refusals.specs.declared.Refusal.TheVariants.{BufferTooShort}
 use Rattle.refusals.specs.Chain.{test, first_failing}
+use Rattle.refusals.proofs.Number.{number_above_0}
 use Rattle.section.specs.Section.{Counted, counted, layers_of, no_layer, links_of}
 use Rattle.section.specs.declared.Links.{Links}
 use Rattle.section.specs.declared.Section.{Section}
@@ -27,7 +29,6 @@ use Rattle.record.specs.Read.{read_of}
 use Rattle.record.specs.Write.{written_by, changed_by, record_written, written_of, buffer_of, bytes_written}
 use Rattle.record.specs.RoundTrip.{cleared, read_back, ReadsBack}
 use Rattle.record.proofs.Ignored.{rest_ignored}
-use Rattle.record.proofs.RoundTrip.{some_number}
 use Rattle.record.proofs.Writing.{map_sequenced, length_record}
 
 -- "sections that differ only there count as the same": places beyond the count, and numbers of absent links, are not written
@@ -75,7 +76,7 @@ module _ (c : Counted) (links : Links) (l : Load) (buf : List ℕ) where
   first_bytes None e =
       let R = record_written c links l in
       take_at R (drop (length R) buf) n (length_record (sequenced_layers c) links l ∙ ap record_length (map_sequenced c links l))
-  first_bytes (Some r) e = absurd (some_number r e)
+  first_bytes (Some r) e = absurd (omega (arith, number_above_0 r))
 
   bytes_are : (written_of c links l buf).refusal ≡ 0 → bytes_written c links l buf ≡ record_written c links l
   bytes_are = first_bytes (first_failing (write_tests c links l buf))

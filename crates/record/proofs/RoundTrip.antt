@@ -14,10 +14,10 @@ use lib.Seq.{take-suc, take_all, take_at, length-take-le}
 use Rattle.std.specs.Prelude.{Option, None, Some}
 use Rattle.refusals.specs.declared.Refusal.{Refusal}
 use Rattle.refusals.specs.Number.{number_or_0}
-use Rattle.refusals.specs.Number as numbers
 use Rattle.refusals.specs.declared.Refusal.TheVariants.{LayerSequence}
 use Rattle.refusals.specs.Chain.{test, first_failing}
 use Rattle.refusals.proofs.Chain.{both_none}
+use Rattle.refusals.proofs.Number.{number_above_0}
 use Rattle.arith.specs.Integer.{in_range}
 use Rattle.arith.proofs.Test.{clash, both_true, and_true}
 use Rattle.section.specs.Section.{Counted, counted, layers_of, no_layer, absent, no_links, links_with, links_of}
@@ -331,15 +331,11 @@ module _ (s : Section) (l : Load) (machine : Machine s l) (passed : asked_of s l
       filled_with : List Layer → Section
       filled_with ls = record { layers = filled ls; width = s.width; height = s.height; grade = s.grade; links = links_of s; count = s.count }
 
--- a refusal's number is not 0
-pub some_number : (r : Refusal) → numbers.number_of r ≡ 0 → ⊥
-some_number r e = grind arith
-
 -- the buffer of a write that was accepted, read afterwards
 round_trip : (s : Section) (l : Load) (buf : List ℕ) → Machine s l → (k : Option Refusal) → first_failing (write_tests (counted s) (links_of s) l buf) ≡ k
     → ReadsBack s l (written_by (record_length (map_of (counted s) (links_of s) l)) k)
     (changed_by (record_written (counted s) (links_of s) l) buf k)
-round_trip s l buf machine (Some r) e z = absurd (some_number r z)
+round_trip s l buf machine (Some r) e z = absurd (omega (arith, number_above_0 r))
 round_trip s l buf machine None e z =
     let c = counted s in
     let links = links_of s in

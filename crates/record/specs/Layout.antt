@@ -1,4 +1,5 @@
--- The record of a section and a load: document 01, "The record", and 02's tickets 3, 8 and 10. Assumes nothing.
+-- The record of a section and a load, its layers as they stand: document 01, "The record", and 02's tickets 3, 8 and 10. (Write puts them in sequence
+-- before: the page `Write`.) Assumes nothing.
 use Rattle.std.specs.Prelude.{ℕ, zero, suc, Bool, true, false, cond, not, List, [], ◌++◌, ltb, ℤ, get_or}
 use Rattle.arith.specs.Integer.{in_range}
 use Rattle.section.specs.Section.{Counted, no_layer, absent}

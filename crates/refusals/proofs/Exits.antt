@@ -1,8 +1,8 @@
 -- A test of a call's sequence as the code makes it, `Refusal::R.unless(t)?`: where it leaves, the test failed and the answer is that refusal; where
--- it goes on, the test passed. And what `(lo..=hi).contains(&x)` tests. Assumes nothing.
+-- it goes on, the test passed. What any `?` returns, and what `(lo..=hi).contains(&x)` tests. Assumes nothing.
 use Prim.Native.Nat.{ℕ}
 use mathlib.Core.Bool.{Bool, true, false, cond, ◌&&◌}
-use mathlib.Core.Path.{◌≡◌, refl, sym, ◌∙◌}
+use mathlib.Core.Path.{◌≡◌, refl, sym, ap, ◌∙◌}
 use native.Mathlib.Omega.{arith}
 use lib.Dec.{leb, ltb}
 use lib.IntN.{ℤ, pos, negsuc}
@@ -11,12 +11,24 @@ use Rattle.std.specs.Prelude.{Option, None, Some, Result, Ok, Err}
 use Rattle.std.proofs.Common.{Less, Equal, Greater}
 use Rattle.std.specs.Ordering.{int_cmp, is_le, partial_le, partial_lt}
 use Rattle.std.specs.Option.{ok_or}
-use Rattle.std.specs.Result.{result_err, IsErrAnd}
+use Rattle.std.specs.Result.{result_err, MatchResult, IsErrAnd}
 use Rattle.std.proofs.lemmas.Option.{none-some, same_Some}
 use Rattle.std.proofs.lemmas.Result.{err_from_is_err_and}
 use Rattle.arith.specs.Integer.{in_range}
 use Rattle.refusals.specs.declared.Refusal.{Refusal}
 use Rattle.refusals.specs.Chain.{test}
+
+-- ---- any `?`: where it leaves, the error is returned as it is, `returned _ c.from_residual.ensures.1`
+
+pub returned : {B E : Type 0} {e : E} (r : Result B E) → IsErrAnd r (λ y. y ≡ e) → r ≡ Err e
+returned r from = let p = err_from_is_err_and r from in p.1 ∙ ap Err p.2
+
+-- and where the error was made another before, `x.map_err(f)?`: it goes on where x was there,
+-- `goes_on _ c.x.result c.map_err.result c.map_err.ensures.cases c.in_ok-x.was`
+pub goes_on : {A E F : Type 0} (P : E → F → Type 0) (x : Result A E) (y : Result A F) → MatchResult x (λ a. y ≡ Ok a) (λ e. IsErrAnd y (P e))
+    → {a : A} → y ≡ Ok a → x ≡ Ok a
+goes_on {A} {E} {F} P (Ok b) y m was = let e : ◌≡◌ {A = Result A F} (Ok b) (Ok _) = sym m ∙ was in cc
+goes_on P (Err e) y m was = absurd (rw was at m)
 
 -- ---- what `unless` returned, of a test t that has the refusal R: write `_` for R, and `c.unless.ensures` for what it said
 
@@ -35,10 +47,7 @@ module _ {A : Type 0} (R : Refusal) {t : Bool} {u : Result A Refusal} (said : re
 
   -- it leaves: `refused _ c.unless.ensures _ c.from_residual.ensures.1 c.in_err-unless.was`
   pub refused : {B : Type 0} {e : Refusal} (r : Result B Refusal) → IsErrAnd r (λ y. y ≡ e) → u ≡ Err e → (t ≡ false) × (r ≡ Err R)
-  refused r from was =
-      let p = err_from_is_err_and r from in
-      let failed = err t refl was in
-      (failed.0, rw (p.1, p.2, failed.1) refl)
+  refused r from was = let failed = err t refl was in (failed.0, returned r from ∙ ap Err failed.1)
 
 -- ---- the same of `o.ok_or(R)?`, a test that o is there
 
@@ -50,10 +59,9 @@ module _ {A : Type 0} (R : Refusal) {o : Option A} {u : Result A Refusal} (said 
   -- it leaves: `is_missing _ c.ok_or.ensures.value _ c.from_residual.ensures.1 c.in_err-x.was`
   pub is_missing : {B : Type 0} {e : Refusal} (r : Result B Refusal) → IsErrAnd r (λ y. y ≡ e) → u ≡ Err e → (o ≡ None) × (r ≡ Err R)
   is_missing {e} r from was =
-      let p = err_from_is_err_and r from in
       let none : o ≡ None = grind arith in
       let same : e ≡ R = grind arith in
-      (none, rw (p.1, p.2, same) refl)
+      (none, returned r from ∙ ap Err same)
 
 -- ---- ranges
 
@@ -73,12 +81,3 @@ pub contained : {lo hi start end : ℤ} (x : ℤ) {spent t : Bool} → start ≡
     && cond spent (partial_lt (λ a b. Some (int_cmp a b)) x end) (partial_le (λ a b. Some (int_cmp a b)) x end))
     → t ≡ in_range lo hi x
 contained {lo} {hi} x low high fresh is = is ∙ rw (low, high, fresh, at_most lo x, at_most x hi) refl
-
--- ---- any `?` on a call that may be refused: where it leaves, it hands the refusal on
-
-module _ {A B : Type 0} {u : Result A Refusal} {e : Refusal} (r : Result B Refusal) (from : IsErrAnd r (λ y. y ≡ e)) (was : u ≡ Err e) where
-  pub handed_on : r ≡ Err e
-  handed_on = let p = err_from_is_err_and r from in rw (p.1, p.2) refl
-
-  pub same_refusal : result_err r ≡ result_err u
-  same_refusal = rw (handed_on, was) refl

@@ -21,7 +21,8 @@ pub record Opened (s : Section) (ds bs : List ℕ) (x : Design) : Type 0 where
   pub layers_are : layers_in s.count ds bs ≡ layers_of s
   pub sixteen : length ds ≡ 16
 
-pub opened : {s : Section} {ds bs : List ℕ} {r : Result Design Refusal} {x : Design} → Apart s ds bs → r ≡ accepted (counted s) → r ≡ Ok x → Opened s ds bs x
+pub opened : {s : Section} {ds bs : List ℕ} {r : Result Design Refusal} {x : Design} → Apart s ds bs → r ≡ accepted (counted s) → r ≡ Ok x
+    → Opened s ds bs x
 opened {s} a answer is =
     let ready = sym answer ∙ is in
     let usable = usable_by s ready in

@@ -132,7 +132,8 @@ pub refused_is : (c : Counted) {r : Refusal} → first_failing (section_tests c)
 unfolding accepted
 refused_is c e = rw e
 
-pub ready_is : (c : Counted) {m : Materials} → first_failing (section_tests c) ≡ None → materials.materials_of c.grade ≡ Ok m → Ok (design_of c m) ≡ accepted c
+pub ready_is : (c : Counted) {m : Materials} → first_failing (section_tests c) ≡ None → materials.materials_of c.grade ≡ Ok m
+    → Ok (design_of c m) ≡ accepted c
 unfolding accepted
 ready_is c e m = rw (e, m)
 

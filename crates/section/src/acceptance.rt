@@ -140,7 +140,7 @@ fn test_links(k: &Links, l: &Load) -> Result<(), Refusal>
     Refusal::LinksUnderForce.unless(l.n == 0)
 }
 
-// The load tests and then those of the links: what Check, Read a record and Write a record ask last of what they are given.
+// The load tests and then those of the links: what Check, Read a record and Write a record ask.
 pub fn test_load_and_links(k: &Links, l: &Load) -> Result<(), Refusal>
     ensures { result_err result ≡ first_failing (load_link_tests k.now l.now) }
 {

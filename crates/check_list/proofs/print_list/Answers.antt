@@ -1,7 +1,7 @@
 -- What went out are the first bytes of the text, all of them or some.
 use Rattle.std.proofs.Common.{ℕ, List, IfSome, take}
 use Rattle.std.specs.Io.KnownBytes.{Appends}
-use Rattle.record.proofs.Named.{goes_on}
+use Rattle.refusals.proofs.Exits.{goes_on}
 use Rattle.listing.specs.Program.{printed_of}
 use Rattle.check_list.proofs.Printing.{of_all}
 use Rattle.check_list.proofs.print_list.Given.{Over}

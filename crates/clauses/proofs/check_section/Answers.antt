@@ -4,7 +4,7 @@ use Rattle.std.specs.Prelude.{Result}
 use Rattle.std.specs.Result.{result_err}
 use Rattle.refusals.specs.declared.Refusal.{Refusal}
 use Rattle.refusals.specs.Chain.{first_failing}
-use Rattle.refusals.proofs.Exits.{handed_on}
+use Rattle.refusals.proofs.Exits.{returned}
 use Rattle.section.specs.declared.Section.{Section}
 use Rattle.section.specs.declared.Links.{Links}
 use Rattle.section.specs.declared.Load.{Load}
@@ -43,13 +43,12 @@ module _ (c : After-counted_links-links) where
 
 pub returns-in_err-top : goal.returns-in_err-top
 returns-in_err-top c =
-    let out = handed_on _ c.from_residual.ensures.1 c.in_err-top.was in
-    clauses c.args.s c.args.l (out ∙ check_refused c.args.s c.args.l (sym c.in_err-top.ensures.value))
+    clauses c.args.s c.args.l (returned _ c.from_residual.ensures.1 ∙ check_refused c.args.s c.args.l (sym c.in_err-top.ensures.value))
 
 pub returns-in_err-test_load_and_links : goal.returns-in_err-test_load_and_links
 returns-in_err-test_load_and_links c =
     let a = (goal.at.returns-in_err-test_load_and_links c).After-counted_links-links in
-    let out = handed_on _ c.from_residual-in_err-test_load_and_links.ensures.1 c.in_err-test_load_and_links.was in
+    let out = returned _ c.from_residual-in_err-test_load_and_links.ensures.1 in
     clauses c.args.s c.args.l
     (out ∙ load_refused c.args.s c.args.l (top a).ready (c.in_err-test_load_and_links.ensures ∙ links_are a))
 

@@ -7,10 +7,9 @@ use lib.Dec.{leb}
 use lib.IntN.{ℤ}
 use Rattle.std.specs.Prelude.{Result}
 use Rattle.std.specs.Result.{result_err}
-use Rattle.std.proofs.lemmas.Result.{err_from_is_err_and}
 use Rattle.refusals.specs.declared.Refusal.{Refusal}
 use Rattle.refusals.specs.Chain.{first_failing}
-use Rattle.refusals.proofs.Exits.{passed, refused}
+use Rattle.refusals.proofs.Exits.{passed, refused, returned}
 use Rattle.arith.proofs.Machine.{result}
 use Rattle.section.specs.declared.Section.{Section}
 use Rattle.section.specs.Section.{counted}
@@ -39,8 +38,8 @@ module _ (c : After-contains) where
 
 pub returns-in_err-face : goal.returns-in_err-face
 returns-in_err-face c =
-    let p = err_from_is_err_and c.from_residual.result c.from_residual.ensures.1 in
-    clauses c.args.s c.args.u (rw (p.1, p.2) (sym (moment_refused c.args.s c.args.u (sym c.in_err-face.ensures.value))))
+    clauses c.args.s c.args.u
+    (returned c.from_residual.result c.from_residual.ensures.1 ∙ sym (moment_refused c.args.s c.args.u (sym c.in_err-face.ensures.value)))
 
 pub returns-in_err-unless : goal.returns-in_err-unless
 returns-in_err-unless c =

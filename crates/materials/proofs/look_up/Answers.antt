@@ -23,11 +23,11 @@ use Rattle.materials.proofs.look_up.Goals.{After-row_of, After-contains, After-o
 
 -- ---- what the factors of a situation's number say of its test
 
-in_table_of : (k : ℤ) {j : Situation} → situation_in k ≡ Some j → (in_range (pos 1) (pos 2) k ≡ true) × (j ≡ situation_of (nat_abs k))
-in_table_of k was = grind arith
+situation_there : (k : ℤ) {j : Situation} → situation_in k ≡ Some j → (in_range (pos 1) (pos 2) k ≡ true) × (j ≡ situation_of (nat_abs k))
+situation_there k was = grind arith
 
-not_in_table : (k : ℤ) → situation_in k ≡ None → in_range (pos 1) (pos 2) k ≡ false
-not_in_table k was = grind arith
+situation_missing : (k : ℤ) → situation_in k ≡ None → in_range (pos 1) (pos 2) k ≡ false
+situation_missing k was = grind arith
 
 -- ---- the tests, one after the other
 
@@ -73,10 +73,11 @@ module _ (c : After-contains-2) where
   abbrev steel_tested : After-of
   steel_tested = (goal.at.After-contains-2 c).After-of
 
-  situation : {j : PartialFactors} → c.ok_or-2.result ≡ Ok j → (in_range (pos 1) (pos 2) c.args.grade.situation ≡ true) × (scaled j ≡ in_situation c.args.grade)
+  situation : {j : PartialFactors} → c.ok_or-2.result ≡ Ok j
+      → (in_range (pos 1) (pos 2) c.args.grade.situation ≡ true) × (scaled j ≡ in_situation c.args.grade)
   situation was =
       let is = is_there _ c.ok_or-2.ensures.value was in
-      in_table_of c.args.grade.situation (sym (factors_of steel_tested) ∙ ap (option_map scaled) is)
+      situation_there c.args.grade.situation (sym (factors_of steel_tested) ∙ ap (option_map scaled) is)
 
   alphacc_test : c.contains-2.result ≡ in_range (pos 80) (pos 100) c.args.grade.alphacc
   alphacc_test = contained _ c.new-2.ensures.start c.new-2.ensures.end c.new-2.ensures.exhausted c.contains-2.ensures.value
@@ -127,7 +128,7 @@ pub returns-in_err-factors : goal.returns-in_err-factors
 returns-in_err-factors c =
     let a = (goal.at.returns-in_err-factors c).After-of in
     let x = is_missing _ c.ok_or-2.ensures.value _ c.from_residual-in_err-factors.ensures.1 c.in_err-factors.was in
-    let none = not_in_table c.args.grade.situation (sym (factors_of a) ∙ ap (option_map scaled) x.0) in
+    let none = situation_missing c.args.grade.situation (sym (factors_of a) ∙ ap (option_map scaled) x.0) in
     let all = clauses c.args.grade {r = c.from_residual-in_err-factors.result} (rw (x.1, class_is (classed a), steel_is a c.in_ok-unless.was, none)) in
     record { value = all.0; refusal = all.1.0; exact = all.1.1.0; promised = all.1.1.1 }
 

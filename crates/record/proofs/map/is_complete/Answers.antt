@@ -1,24 +1,20 @@
 -- One bit more at each turn, at the end all of the table.
 use mathlib.Core.Path.{◌≡◌, refl, ap, ◌∙◌}
-use mathlib.Core.Bool.{Bool, true, false, not, ◌&&◌, ◌||◌}
+use mathlib.Core.Bool.{Bool, not, ◌&&◌, ◌||◌}
 use Prim.Native.Nat.{ℕ, ◌+◌}
 use native.Mathlib.Numerals.{add-one}
 use native.Mathlib.Omega.{arith}
+use Rattle.std.proofs.Math.Bool.{and_comm}
 use Rattle.record.specs.Fields.{width, field_of, must_stand}
 use Rattle.record.specs.Map.{stands, complete_to, complete}
 use Rattle.record.proofs.map.is_complete.Goals as goal
 use Rattle.record.proofs.map.is_complete.Goals.{then-not-must_stand, else-not-must_stand}
 
-and_turned : (p q : Bool) → (p && q) ≡ (q && p)
-and_turned true true = refl
-and_turned true false = refl
-and_turned false true = refl
-and_turned false false = refl
-
 -- a further bit, of which `here` says whether it is as it must be
-further : (m k : ℕ) {done here : Bool} → here ≡ (not (must_stand (field_of k)) || stands m k) → done ≡ complete_to m k → (done && here) ≡ complete_to m (k + 1)
+further : (m k : ℕ) {done here : Bool} → here ≡ (not (must_stand (field_of k)) || stands m k) → done ≡ complete_to m k
+    → (done && here) ≡ complete_to m (k + 1)
 unfolding complete_to
-further m k h d = rw (h, d, add-one k) (and_turned (complete_to m k) (not (must_stand (field_of k)) || stands m k))
+further m k h d = rw (h, d, add-one k) (and_comm (complete_to m k) (not (must_stand (field_of k)) || stands m k))
 
 pub loop-k-init : goal.loop-k-init
 unfolding complete_to

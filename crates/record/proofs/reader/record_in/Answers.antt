@@ -6,12 +6,13 @@ use borrow.Author.Rules.{rules}
 use Rattle.std.specs.Prelude.{None, Ok}
 use Rattle.std.specs.Result.{result_err}
 use Rattle.refusals.specs.Chain.{first_failing}
+use Rattle.refusals.proofs.Exits.{returned, goes_on}
 use Rattle.record.specs.Map.{record_length}
 use Rattle.record.specs.Contents.{section_of, load_of}
 use Rattle.record.specs.Refusals.{map_in, map_tests, held_tests}
 use Rattle.record.specs.Read.{accepted_reading, refused_reading}
 use Rattle.record.specs.Code.Answer.{reading_as}
-use Rattle.record.proofs.Named.{goes_on, leaves, returned}
+use Rattle.record.proofs.Named.{leaves}
 use Rattle.record.proofs.Readings.{map_refused, held_refused, none_refused}
 use Rattle.record.proofs.reader.record_in.Goals as goal
 use Rattle.record.proofs.reader.record_in.Goals.{After-test_held}

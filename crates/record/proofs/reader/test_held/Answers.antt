@@ -10,7 +10,7 @@ use Rattle.refusals.specs.declared.Refusal.{Refusal}
 use Rattle.refusals.specs.declared.Refusal.TheVariants.{LayerSequence}
 use Rattle.refusals.specs.Chain.{test, first_failing}
 use Rattle.refusals.proofs.Chain.{first_of}
-use Rattle.refusals.proofs.Exits.{passed, refused, same_refusal}
+use Rattle.refusals.proofs.Exits.{passed, refused, returned}
 use Rattle.section.specs.declared.Links.{Links}
 use Rattle.section.specs.declared.Section.{Section}
 use Rattle.section.specs.declared.Load.{Load}
@@ -42,7 +42,7 @@ module _ (c : After-accept) where
 pub returns-in_err-accept : goal.returns-in_err-accept
 returns-in_err-accept c =
     let a = (goal.at.returns-in_err-accept c).After-accept in
-    same_refusal c.from_residual-in_err-accept.result c.from_residual-in_err-accept.ensures.1 c.in_err-accept.was ∙ ap result_err c.in_err-accept.was
+    ap result_err (returned c.from_residual-in_err-accept.result c.from_residual-in_err-accept.ensures.1)
     ∙ sym (held c.args.map (s a) c.args.r.now.load (complete_is a) ∙ rw (first_is a (ap result_err c.in_err-accept.was)) refl)
 
 pub returns-in_err-unless-2 : goal.returns-in_err-unless-2

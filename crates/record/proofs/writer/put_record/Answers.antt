@@ -11,7 +11,7 @@ use Rattle.std.specs.Prelude.{None, Ok, Err}
 use Rattle.std.specs.Result.{result_err}
 use Rattle.refusals.specs.declared.Refusal.{Refusal}
 use Rattle.refusals.specs.declared.Refusal.TheVariants.{BufferTooShort}
-use Rattle.refusals.proofs.Exits.{passed, refused}
+use Rattle.refusals.proofs.Exits.{passed, refused, returned}
 use Rattle.section.specs.Section.{counted, links_of}
 use Rattle.section.proofs.Usable.{all_passed}
 use Rattle.sequence.specs.Order.{sequenced_layers}
@@ -20,7 +20,6 @@ use Rattle.record.specs.Map.{record_length}
 use Rattle.record.specs.Layout.{map_of, fields}
 use Rattle.record.specs.Write.{written_as}
 use Rattle.record.proofs.Digits.{to_four}
-use Rattle.record.proofs.Named.{returned}
 use Rattle.record.proofs.Passed.{asked_of}
 use Rattle.record.proofs.Writing.{map_sequenced}
 use Rattle.record.proofs.Writes.{Answered, by_tests, by_length, done}

@@ -9,7 +9,7 @@ use Rattle.std.proofs.lemmas.Result.{IfOk-at_ok}
 use mir.Facts.{to_z-of_z}
 use Rattle.std.specs.Prelude.{Ok}
 use Rattle.std.specs.Result.{result_err}
-use Rattle.refusals.proofs.Exits.{handed_on}
+use Rattle.refusals.proofs.Exits.{returned}
 use Rattle.section.specs.declared.Design.{Design}
 use Rattle.section.specs.Section.{counted}
 use Rattle.section.specs.Refusals.{accepted}
@@ -21,7 +21,7 @@ use Rattle.section.proofs.acceptance.accept.Goals.{After-from_residual, After-un
 
 refused : (c : After-from_residual) → design_in c.from_residual.result ≡ accepted (counted c.args.s.now)
 refused c =
-    ap design_in (handed_on c.from_residual.result c.from_residual.ensures.1 c.in_err-m.was)
+    ap design_in (returned c.from_residual.result c.from_residual.ensures.1)
     ∙ refused_is (counted c.args.s.now) (sym c.test_section.ensures.refusal ∙ ap result_err c.in_err-m.was)
 
 pub returns-in_err-m-clause-value : goal.returns-in_err-m-clause-value

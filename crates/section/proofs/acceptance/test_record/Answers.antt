@@ -2,7 +2,7 @@
 use mathlib.Core.Path.{refl, sym, ap, ◌∙◌}
 use Rattle.std.specs.Result.{result_err}
 use Rattle.refusals.proofs.Chain.{first_of}
-use Rattle.refusals.proofs.Exits.{same_refusal}
+use Rattle.refusals.proofs.Exits.{returned}
 use Rattle.section.specs.declared.Links.{Links}
 use Rattle.refusals.specs.Chain.{first_failing}
 use Rattle.section.specs.Section.{counted, links_of}
@@ -13,7 +13,7 @@ pub returns-in_err-accept : goal.returns-in_err-accept
 returns-in_err-accept c =
     let a = c.args in
     let e = sym c.accept.ensures.refusal ∙ ap result_err c.in_err-accept.was in
-    same_refusal c.from_residual.result c.from_residual.ensures.1 c.in_err-accept.was ∙ ap result_err c.in_err-accept.was
+    ap result_err (returned c.from_residual.result c.from_residual.ensures.1)
     ∙ sym (first_of (section_tests (counted a.s.now)) (load_link_tests (links_of a.s.now) a.l.now) ∙ rw e refl)
 
 pub returns : goal.returns

@@ -11,7 +11,7 @@ use Rattle.std.specs.Prelude.{Ok, Err}
 use Rattle.std.specs.Result.{result_err}
 use Rattle.arith.specs.Integer.{in_range}
 use Rattle.refusals.specs.Chain.{first_failing}
-use Rattle.refusals.proofs.Exits.{passed, refused, same_refusal, contained}
+use Rattle.refusals.proofs.Exits.{passed, refused, returned, contained}
 use Rattle.materials.specs.Answer.{materials_of}
 use Rattle.section.specs.Refusals.{layer_tests, section_tests}
 use Rattle.section.specs.Section.{counted, layers_of}
@@ -49,7 +49,7 @@ returns-in_err-m-clause-refusal c =
     let at = (goal.at.returns-in_err-m-clause-refusal c).After-look_up in
     let w = width_ok (goal.at.After-look_up at).After-contains-2 in
     let e : materials_of c.args.s.now.grade ≡ Err _ = sym c.look_up.ensures.value ∙ c.in_err-m.was in
-    same_refusal c.from_residual-in_err-m.result c.from_residual-in_err-m.ensures.1 c.in_err-m.was ∙ rw (c.in_err-m.was, w, height_ok at, e) refl
+    ap result_err (returned c.from_residual-in_err-m.result c.from_residual-in_err-m.ensures.1) ∙ rw (w, height_ok at, e) refl
 
 -- once the layers' tests have answered
 module _ (c : After-test_layers) where
@@ -71,7 +71,8 @@ module _ (c : After-test_layers) where
 pub returns-in_err-test_layers-clause-refusal : goal.returns-in_err-test_layers-clause-refusal
 returns-in_err-test_layers-clause-refusal c =
     let at = (goal.at.returns-in_err-test_layers-clause-refusal c).After-test_layers in
-    same_refusal c.from_residual-in_err-test_layers.result c.from_residual-in_err-test_layers.ensures.1 c.in_err-test_layers.was ∙ sym (by_them at)
+    ap result_err (returned c.from_residual-in_err-test_layers.result c.from_residual-in_err-test_layers.ensures.1)
+    ∙ sym (ap result_err c.in_err-test_layers.was) ∙ sym (by_them at)
 
 pub returns-clause-refusal : goal.returns-clause-refusal
 returns-clause-refusal c =
