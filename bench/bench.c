@@ -1,13 +1,15 @@
 /* How quick the engine is beside plain C of the same work.
  *
- *   bench [SEED]    compares every answer, then times Check, Check with links, Find a depth and Check beyond 10h (list.c times the list program)
+ *   bench [SEED]    compares every answer, then times Check, Check with links, Find a depth, Try a layer and Check beyond 10h (list.c times the
+ *                   list program)
  *
  * Answers: random sections and loads, with every refusal of the two calls and values at the limits among them, and the loads at which
  * answers turn (the force at a depth 1 N less and more, MRd of either face 1 N·mm less and more); a third has links, with the V, the spacing
  * and the area among them at which verdict six turns; half are of the accidental situation, and half have any alpha_cc of 80 to 100 hundredths, the
  * others 100. One in ten is drawn as a column (ticket 11): N about the force at 10h of a face, at that of a depth beyond 10h, or about the greatest of
  * these, where 12 begins. Plain C tries each depth there, which takes it up to milliseconds: so most columns are low, and all are compared with plain C
- * by pointer alone. A difference is printed and ends the run with 1.
+ * by pointer alone. With each section and load, refused or not, a layer is tried, one in eight at a limit or beyond it, at a place up to one beyond
+ * the number of layers; one place in eight is about the sixteenth or at the end of the numbers. A difference is printed and ends the run with 1.
  *
  * Times: accepted sections with loads, the same for all, in two ways. "Over and over" are FEW sections, gone through again and again: the
  * processor has learnt which way every branch of each goes, as it has of nothing that is checked once. "In turn" are SECTIONS, each seen
@@ -22,6 +24,10 @@
  * by 12; of those in turn plain C, by pointer, goes through the first SCANNED alone. times = time of the engine / its own time of a Check up to 10h
  * with as many layers. The last rows are what the engine's search is slowest at: columns whose force stands still over most of the depths, what one
  * layer loses being what another gains, under an N within a newton of the greatest force, where it takes as many trials as plain C.
+ *
+ * "Try a layer" is timed on the sections without links, with a trial for each that is drawn beforehand: at a place of the section or, below sixteen
+ * layers, after the last, a layer with which the copy is accepted, with depths up to 10h. Check is the engine's own of these copies, made beforehand
+ * too: times = time of the trial / time of the Check that has the same answer, so what is above 1 is the place and the copying.
  *
  * "plain" finds the depth, r and q by a least and a greatest candidate; "same roots" is plain C by pointer with r and q from the engine's
  * guess, tested as the engine tests it. */
@@ -134,7 +140,37 @@ static salwoerk_report compare(const salwoerk_section *s, salwoerk_load l)
     return e;
 }
 
+/* A layer tried at a place. */
+typedef struct { size_t place; salwoerk_layer layer; } trial;
+
+/* bit k: refusal k was met by a trial; and how many trials have an answer, with the layer in place of another and with it added. */
+static uint64_t met_by_trials;
+static long answered_trials[2];
+
+static salwoerk_report compare_trial(const salwoerk_section *s, salwoerk_load l, trial t)
+{
+    salwoerk_report e = salwoerk_try_layer(*s, l, t.place, t.layer), p = plain_try_layer(s, &l, t.place, t.layer);
+    if (!equal(e, p)) {
+        printf("DIFFERENT ANSWERS\n");
+        print_section(s, l);
+        printf("tried at place %zu: %u/%u\n", t.place, t.layer.depth, t.layer.area);
+        print_check("engine", e);
+        print_check("plain ", p);
+        exit(1);
+    }
+    met_by_trials |= 1ull << e.refusal;
+    if (!e.refusal) answered_trials[t.place == s->count]++;
+    return e;
+}
+
 /* ---- sections */
+
+/* Any layer that such a section may have. */
+static salwoerk_layer random_layer(const salwoerk_section *s)
+{
+    int64_t most = one_in(4) ? 20000 : 1 + s->width * s->height / 25 / (int64_t)s->count % 20000;
+    return (salwoerk_layer){ (uint32_t)between(1, s->height - 1), (uint32_t)between(1, most) };
+}
 
 /* An accepted section of the persistent situation and alpha_cc 100, so high at most, with so many layers and no links; the places beyond, and the
  * links, hold numbers that no answer may depend on. */
@@ -148,10 +184,7 @@ static void random_section(salwoerk_section *s, size_t count, int64_t highest)
     s->grade.alpha_cc = SALWOERK_RECOMMENDED_ALPHA_CC;
     s->links = (salwoerk_links){ 0, (uint32_t)between(0, 6000), (uint32_t)between(0, 1100) };
     s->count = count;
-    for (size_t i = 0; i < 16; i++) {
-        s->layers[i].depth = (uint32_t)between(1, s->height - 1);
-        s->layers[i].area = (uint32_t)between(1, one_in(4) ? 20000 : 1 + s->width * s->height / 25 / (int64_t)count % 20000);
-    }
+    for (size_t i = 0; i < 16; i++) s->layers[i] = random_layer(s);
 }
 
 /* Half of the accidental situation, half of any alpha_cc. */
@@ -169,6 +202,14 @@ static void add_links(salwoerk_section *s, salwoerk_load *l)
     l->n = 0;
 }
 
+/* One number of a layer put at a limit or beyond it. */
+static void damage_layer(salwoerk_layer *layer, int64_t height)
+{
+    static const uint32_t areas[] = { 0, 1, 19999, 20000, 20001, UINT32_MAX };
+    uint32_t depths[] = { 0, 1, (uint32_t)height - 1, (uint32_t)height, (uint32_t)height + 1, UINT32_MAX };
+    if (one_in(2)) layer->depth = depths[below(6)]; else layer->area = areas[below(6)];
+}
+
 /* One number of an accepted section put at a limit or beyond it. */
 static void damage(salwoerk_section *s, salwoerk_load *l)
 {
@@ -178,22 +219,18 @@ static void damage(salwoerk_section *s, salwoerk_load *l)
     static const int64_t situations[] = { 0, 1, 2, 3, -1, -2, 257, INT64_MIN, INT64_MAX };
     static const int64_t factors[] = { 79, 80, 81, 99, 100, 101, 0, -85, 341, INT64_MIN, INT64_MAX };
     static const size_t counts[] = { 0, 1, 15, 16, 17, 18, SIZE_MAX };
-    static const uint32_t areas[] = { 0, 1, 19999, 20000, 20001, UINT32_MAX };
     static const uint64_t present[] = { 0, 1, 2, 256, 1ull << 32, UINT64_MAX };
     static const uint32_t link_areas[] = { 0, 1, 4999, 5000, 5001, UINT32_MAX };
     static const uint32_t spacings[] = { 0, 24, 25, 1000, 1001, UINT32_MAX };
     static const int64_t forces[] = { 500000000, 500000001, -500000000, -500000001, INT64_MIN, INT64_MAX, 0 };
     static const int64_t moments[] = { 1000000000000, 1000000000001, -1000000000000, -1000000000001, INT64_MIN, INT64_MAX, 0, -1, 1 };
-    salwoerk_layer *any = &s->layers[below(16)];
-    uint32_t depths[] = { 0, 1, (uint32_t)s->height - 1, (uint32_t)s->height, (uint32_t)s->height + 1, UINT32_MAX };
     switch (below(14)) {
     case 0: s->width = sizes[below(11)]; break;
     case 1: s->height = sizes[below(11)]; break;
     case 2: s->grade.fck = fcks[below(13)]; break;
     case 3: s->grade.fyk = fyks[below(10)]; break;
     case 4: s->count = counts[below(7)]; break;
-    case 5: any->depth = depths[below(6)]; break;
-    case 6: any->area = areas[below(6)]; break;
+    case 5: case 6: damage_layer(&s->layers[below(16)], s->height); break;
     case 7: if (one_in(2)) l->n = forces[below(7)]; else l->v = forces[below(7)]; break;
     case 8: l->m = moments[below(9)]; break;
     case 9: s->links.present = present[below(6)]; break;
@@ -215,6 +252,21 @@ static bool is_column(const salwoerk_section *s, int64_t n) { return n > reach(s
 
 /* The higher a column, the more depths plain C tries: so fewer of them are compared. */
 static bool left_out(const salwoerk_section *s, int64_t n) { return is_column(s, n) && !one_in(1 + (uint64_t)s->height / 32); }
+
+/* A place of so many layers, the one after the last or one beyond that; one in eight about the sixteen places or at the end of the numbers. */
+static size_t random_place(size_t count)
+{
+    static const size_t others[] = { 0, 15, 16, 17, 18, SIZE_MAX - 1, SIZE_MAX };
+    return count > 18 || one_in(8) ? others[below(7)] : (size_t)below(count + 2);
+}
+
+/* Any layer that the section, not damaged yet, may have; one in eight damaged. */
+static salwoerk_layer layer_to_try(const salwoerk_section *s)
+{
+    salwoerk_layer layer = random_layer(s);
+    if (one_in(8)) damage_layer(&layer, s->height);
+    return layer;
+}
 
 /* Where depths and resistances turn. */
 static void compare_turn(salwoerk_section s, salwoerk_load l)
@@ -285,6 +337,7 @@ static void compare_column(void)
     int64_t m = between(-2000000000, 2000000000), n = column_load(&s, one_in(2) ? m : -m);
     salwoerk_report a = compare(&s, (salwoerk_load){ n, m, between(-1000000, 1000000) });
     compare(&s, (salwoerk_load){ n, -m, 0 });
+    compare_trial(&s, (salwoerk_load){ n, m, 0 }, (trial){ random_place(s.count), layer_to_try(&s) });
     if (a.refusal || !one_in(8)) return;
     for (int64_t d = -1, side = m < 0 ? -1 : 1; d <= 1; d++) { /* both ends of verdict one */
         compare(&s, (salwoerk_load){ n, side * (a.mrd + d), d });
@@ -309,6 +362,8 @@ static void print_met(void)
     for (int a = 0; a < 21; a++) if (reduced >> a & 1) printf(" %d", 80 + a);
     printf("; trials of Find a depth");
     for (int t = 0; t <= SALWOERK_MOST_TRIALS; t++) if (trials >> t & 1) printf(" %d", t);
+    printf("\nlayers tried: %ld answers in place of another, %ld added; met the refusals", answered_trials[0], answered_trials[1]);
+    for (int k = 1; k < 35; k++) if (met_by_trials >> k & 1) printf(" %d", k);
     printf("\nbeyond 10h: %ld answers of the face shown alone, %ld of the other alone, %ld of both; %ld refused by 12\n", beyond[1], beyond[2],
         beyond[3], above);
 }
@@ -321,8 +376,10 @@ static void compare_section(void)
     random_factors(&s);
     if (left_out(&s, l.n)) l.n = between(0, reach(&s));
     if (one_in(3)) add_links(&s, &l);
+    salwoerk_layer layer = layer_to_try(&s);
     while (one_in(4)) damage(&s, &l);
     salwoerk_report a = compare(&s, l);
+    compare_trial(&s, l, (trial){ random_place(s.count), layer });
     if (a.refusal) return;
     if (one_in(64)) compare_turn(s, l);
     if (s.links.present && one_in(16)) compare_link_turn(s, l, a);
@@ -339,16 +396,22 @@ static void compare_all(void)
 static salwoerk_section sections[SECTIONS];
 static salwoerk_load loads[SECTIONS];
 
+/* The trial of each section, and the copy that it is of. */
+static trial tried[SECTIONS];
+static salwoerk_section altered[SECTIONS];
+
+static salwoerk_layer sized_layer(const salwoerk_section *s)
+{
+    return (salwoerk_layer){ (uint32_t)between(30, s->height - 30), (uint32_t)between(100, 20000 / (int64_t)s->count) };
+}
+
 /* Of the size of beams and columns, steel up to about 4 % of the section. */
 static void sized_section(salwoerk_section *s, size_t count)
 {
     random_section(s, count, 2000);
     s->width = between(200, 1000);
     s->height = between(300, 1500);
-    for (size_t i = 0; i < 16; i++) {
-        s->layers[i].depth = (uint32_t)between(30, s->height - 30);
-        s->layers[i].area = (uint32_t)between(100, 20000 / (int64_t)count);
-    }
+    for (size_t i = 0; i < 16; i++) s->layers[i] = sized_layer(s);
 }
 
 static salwoerk_load load_with(int64_t n) { return (salwoerk_load){ n, between(-1000000000, 1000000000), between(-500000, 500000) }; }
@@ -366,6 +429,22 @@ static void fill(size_t count, bool linked)
                 loads[k].n = 0;
             }
         } while (is_column(s, loads[k].n) || compare(s, loads[k]).refusal);
+    }
+}
+
+/* Accepted, up to 10h; at any place of the section alike or, below sixteen layers, after the last. */
+static void fill_trials(void)
+{
+    for (int k = 0; k < SECTIONS; k++) {
+        salwoerk_section *s = &sections[k], *copy = &altered[k];
+        salwoerk_report a;
+        do {
+            tried[k] = (trial){ (size_t)below(s->count < 16 ? s->count + 1 : 16), sized_layer(s) };
+            a = compare_trial(s, loads[k], tried[k]);
+        } while (a.refusal || faces_beyond(s, a));
+        *copy = *s;
+        copy->layers[tried[k].place] = tried[k].layer;
+        copy->count += tried[k].place == s->count;
     }
 }
 
@@ -460,6 +539,19 @@ static void measure_depth(way w, double *best)
     }
 }
 
+/* By the engine and by plain C by pointer; and the engine's Check of the copies. */
+static void measure_trial(way w, double *best)
+{
+    for (int i = 0; i < 3; i++) best[i] = 1e18;
+    for (int round = 0; round < w.rounds; round++) {
+        volatile char *moved = alloca((size_t)(16 + 16 * below(256)));
+        moved[0] = 0;
+        TIME(best[0], w, salwoerk_try_layer(sections[k], loads[k], tried[k].place, tried[k].layer).mrd);
+        TIME(best[1], w, plain_try_layer(&sections[k], &loads[k], tried[k].place, tried[k].layer).mrd);
+        TIME(best[2], w, salwoerk_check(altered[k], loads[k]).mrd);
+    }
+}
+
 /* By the engine and by plain C by pointer; and the percentage of the engine's columns that are refused by 12. */
 static void measure_columns(column_way w, double *best)
 {
@@ -496,6 +588,15 @@ static void print_depth_times(way w, double t[COUNTS][3])
     }
 }
 
+/* Beside the engine's own Check of the copies. */
+static void print_trial_times(way w, double t[COUNTS][3])
+{
+    printf("Try a layer, %s\nlayers   engine/s  engine |  plain  ratio |  Check  times\n", w.name);
+    for (int c = 0; c < COUNTS; c++)
+        printf("%6zu %10.0f %7.1f | %6.1f %6.2f | %6.1f %6.2f\n", counts[c], 1e9 / t[c][0], t[c][0], t[c][1], t[c][1] / t[c][0], t[c][2],
+            t[c][0] / t[c][2]);
+}
+
 /* Beside the engine's own Check up to 10h with as many layers. */
 static void print_column_times(column_way w, double t[COUNTS][3], double check[COUNTS][4])
 {
@@ -507,13 +608,15 @@ static void print_column_times(column_way w, double t[COUNTS][3], double check[C
 
 static void times(void)
 {
-    static double check[2][COUNTS][4], linked[2][COUNTS][4], depth[2][COUNTS][3], columns[3][COUNTS][3];
+    static double check[2][COUNTS][4], linked[2][COUNTS][4], depth[2][COUNTS][3], layer[2][COUNTS][3], columns[3][COUNTS][3];
     for (int c = 0; c < COUNTS; c++) {
         fill(counts[c], false);
         for (int w = 0; w < 2; w++) {
             measure_check(ways[w], check[w][c]);
             measure_depth(ways[w], depth[w][c]);
         }
+        fill_trials();
+        for (int w = 0; w < 2; w++) measure_trial(ways[w], layer[w][c]);
         fill(counts[c], true);
         for (int w = 0; w < 2; w++) measure_check(ways[w], linked[w][c]);
         fill_columns(counts[c]);
@@ -525,6 +628,8 @@ static void times(void)
     for (int w = 0; w < 2; w++) print_check_times("Check", ways[w], check[w]);
     for (int w = 0; w < 2; w++) print_check_times("Check, with links", ways[w], linked[w]);
     for (int w = 0; w < 2; w++) print_depth_times(ways[w], depth[w]);
+    printf("times = engine's trial / engine's Check of the copy\n");
+    for (int w = 0; w < 2; w++) print_trial_times(ways[w], layer[w]);
     printf("times = engine beyond 10h / engine up to 10h\n");
     for (int w = 0; w < 3; w++) print_column_times(column_ways[w], columns[w], check[w > 0]);
 }

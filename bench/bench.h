@@ -10,6 +10,7 @@ salwoerk_depth plain_find_depth(const salwoerk_section *s, int64_t n);
 salwoerk_depth plain_find_depth_by_value(salwoerk_section s, int64_t n);
 salwoerk_report plain_check(const salwoerk_section *s, const salwoerk_load *l);
 salwoerk_report plain_check_by_value(salwoerk_section s, salwoerk_load l);
+salwoerk_report plain_try_layer(const salwoerk_section *s, const salwoerk_load *l, size_t place, salwoerk_layer layer);
 
 /* Of an accepted section and the face that M compresses, in whole newtons: the internal force at u, rounded down, and the greatest one beyond 10h. */
 int64_t plain_force(const salwoerk_section *s, int64_t moment, int64_t u);

@@ -1,4 +1,4 @@
-/* Find a depth and Check in plain C, as a C programmer would write them who wants them quick: the measure that the engine is held to.
+/* Find a depth, Check and Try a layer in plain C, as a C programmer would write them who wants them quick: the measure that the engine is held to.
  * The same tests in the same sequence, the same rule of halving without a division, r and q by that rule too, K from a table; the strut's
  * cotangent by a loop over its sixteen tenths; beyond 10h each depth in turn until one reaches N, since halving is wrong where the force may fall.
  * With -DSAME it is Check with r and q as the engine has them: a guess by one Halley step, tested by the definition, and halving where it fails.
@@ -388,6 +388,16 @@ static inline salwoerk_report check(const salwoerk_section *s, const salwoerk_lo
     return report(&top, &bottom, s, &m, l);
 }
 
+/* What Check says of a copy with that layer in that place. A count above 16, which 5 refuses whatever it is, stays as it is. */
+__attribute__((unused)) static inline salwoerk_report try_layer(const salwoerk_section *s, const salwoerk_load *l, size_t place, salwoerk_layer layer)
+{
+    if (place > s->count) return refused(33);
+    salwoerk_section altered = *s;
+    if (place < 16) altered.layers[place] = layer;
+    if (place == s->count && place <= 16) altered.count++;
+    return check(&altered, l);
+}
+
 /* ---- for the loads that bench.c draws, of an accepted section: the face that M compresses */
 
 /* Its internal force at u, rounded down to whole newtons. */
@@ -426,6 +436,10 @@ salwoerk_depth plain_find_depth(const salwoerk_section *s, int64_t n) { return f
 salwoerk_depth plain_find_depth_by_value(salwoerk_section s, int64_t n) { return find_depth(&s, n); }
 salwoerk_report plain_check(const salwoerk_section *s, const salwoerk_load *l) { return check(s, l); }
 salwoerk_report plain_check_by_value(salwoerk_section s, salwoerk_load l) { return check(&s, &l); }
+salwoerk_report plain_try_layer(const salwoerk_section *s, const salwoerk_load *l, size_t place, salwoerk_layer layer)
+{
+    return try_layer(s, l, place, layer);
+}
 int64_t plain_force(const salwoerk_section *s, int64_t moment, int64_t u) { return newtons_at(s, moment, u); }
 int64_t plain_most_beyond(const salwoerk_section *s, int64_t moment) { return most_beyond(s, moment); }
 #endif

@@ -15,6 +15,7 @@
 #include <stdint.h>
 
 /* Of this header: MAJOR changes where a caller must be compiled again, MINOR where something is added, PATCH else.
+ * 6.2.0: salwoerk_try_layer (request 9), and 33, which it alone gives, are new. No struct, no other call and no other answer changed.
  * 6.1.0: a record has its layers by rising depth, and equal depths by rising area (request 6). salwoerk_write puts them so, of whatever sequence it is
  * handed, so that equal sections and loads have equal bytes; salwoerk_read and salwoerk_list refuse a record that has them otherwise with 31, which is
  * new. Archives may hold such records: ./sort-records puts them in sequence. No struct and no signature changed.
@@ -37,7 +38,7 @@
  * 2.0.0: verdict one and refusal 12 of salwoerk_check look at both faces, and its answer holds other_u and other_mrd before vrd; so whoever calls
  * it must be compiled again. */
 #define SALWOERK_VERSION_MAJOR 6
-#define SALWOERK_VERSION_MINOR 1
+#define SALWOERK_VERSION_MINOR 2
 #define SALWOERK_VERSION_PATCH 0
 #define SALWOERK_VERSION (SALWOERK_VERSION_MAJOR * 10000 + SALWOERK_VERSION_MINOR * 100 + SALWOERK_VERSION_PATCH)
 
@@ -73,7 +74,8 @@ typedef struct {
 
 /* Width and height in mm. Only the first `count` layers are read. They may stand in any sequence: it makes no difference to what salwoerk_find_depth,
  * salwoerk_moment_at and salwoerk_check answer, refusals included (request 2, proved), nor to the bytes that salwoerk_write writes (request 6, proved):
- * a record has them by rising depth, and equal depths by rising area. */
+ * a record has them by rising depth, and equal depths by rising area. A place, as salwoerk_try_layer takes it, names a layer in the sequence in which
+ * the section holds them: in one that salwoerk_read answers, by rising depth, and equal depths by rising area. */
 typedef struct {
     salwoerk_layer layers[SALWOERK_LAYERS];
     int64_t width, height;
@@ -120,6 +122,7 @@ enum salwoerk_refusal {
     SALWOERK_LINKS_WITH_AXIAL_FORCE = 29,
     SALWOERK_LAYER_SEQUENCE = 31, /* only of a record that is read */
     SALWOERK_SITUATION = 32,
+    SALWOERK_LAYER_PLACE = 33, /* only of salwoerk_try_layer */
     SALWOERK_ALPHA_CC = 34 /* the refusal; the factor is grade.alpha_cc */
 };
 
@@ -151,6 +154,7 @@ static inline const char *salwoerk_refusal_text(uint64_t refusal)
     case SALWOERK_LINKS_WITH_AXIAL_FORCE: return "links with N not 0";
     case SALWOERK_LAYER_SEQUENCE: return "layers of the record not by rising depth, equal depths by rising area";
     case SALWOERK_SITUATION: return "design situation not 1 or 2";
+    case SALWOERK_LAYER_PLACE: return "place beyond the number of layers";
     case SALWOERK_ALPHA_CC: return "alpha_cc not 80 to 100 hundredths";
     default: return "no refusal of this version";
     }
@@ -261,6 +265,17 @@ typedef struct {
     uint64_t verdicts[SALWOERK_VERDICTS];
 } salwoerk_report;
 salwoerk_report salwoerk_check(salwoerk_section section, salwoerk_load load);
+
+/* Try a layer before placing it: the answer, refusals included, that salwoerk_check gives for a copy of the section with this layer in that place.
+ * The section handed over stays as it is; where the verdicts please, the caller puts the layer into it.
+ *
+ * Places are counted from 0, in the sequence in which the section holds its layers. A place equal to count adds the layer after the last one: with
+ * sixteen layers that makes seventeen, which 5 refuses where it stands among the section tests. Refusals: 33 for a place above count, then those of
+ * the copy: section tests, load tests, link tests, 11 12. Of the layer that is replaced nothing is asked. Whatever numbers place and count are, no
+ * place beyond the sixteen is read or written.
+ *
+ * It takes about as long as one salwoerk_check of the copy (measured by bench/run, not proved), so that it can follow a mouse. */
+salwoerk_report salwoerk_try_layer(salwoerk_section section, salwoerk_load load, size_t place, salwoerk_layer layer);
 
 /* Read a record; bytes after it are ignored. Refusals: 20 21 22 23, section tests, 31, load tests, link tests. 31 is given where the layers of the
  * record do not stand by rising depth, and equal depths by rising area; equal layers may follow each other. The length is answered on success, on 23,

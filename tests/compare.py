@@ -8,7 +8,8 @@ standard output. LIB.so is the engine as a shared object; without --library
 that part is left out, and what it assumes stands at the top of library.py.
 Beside the fixed records there are N random ones and as many columns, most of
 them with a depth beyond 10h (02, request 11); some of all these once more with
-their layers in any sequence (request 6).
+their layers in any sequence (request 6), or reached by a trial of a layer
+(request 9), of which layer_trials.py has others.
 
 Every difference is printed with its record in hexadecimal and both answers.
 The last line is 'N passed, M failed'; the exit status is 1 on a failure.

@@ -60,7 +60,7 @@ TAKES(salwoerk_written, 16);
 LIES(salwoerk_written, refusal, 0, 8);
 LIES(salwoerk_written, length, 8, 8);
 
-_Static_assert(SALWOERK_VERSION == 60100, "6.1.0");
+_Static_assert(SALWOERK_VERSION == 60200, "6.2.0");
 _Static_assert(SALWOERK_MOST_TRIALS == 15, "20,000 candidates, halved and rounded up, are one after 15 trials");
 _Static_assert(SALWOERK_RECORD_ROOM == 212, "a map, seven numbers, the links, sixteen layers, the situation and alpha_cc");
 _Static_assert(SALWOERK_RECOMMENDED_ALPHA_CC == 100, "the recommended value of 3.1.6(1) is 1.0");
@@ -713,6 +713,136 @@ static void refused_links(void)
     }
 }
 
+/* ---- a layer tried (request 9) */
+
+/* The copy that the trial is of, for any of the sixteen places. */
+static salwoerk_section altered(salwoerk_section s, size_t place, salwoerk_layer layer)
+{
+    if (place == s.count) s.count++;
+    s.layers[place] = layer;
+    return s;
+}
+
+/* The trial has the answer of Check for that copy, and what it was handed is as it was. */
+static void require_tried(const salwoerk_section *s, salwoerk_load load, size_t place, salwoerk_layer layer)
+{
+    salwoerk_section in_hand = *s;
+    salwoerk_report tried = salwoerk_try_layer(in_hand, load, place, layer), checked = salwoerk_check(altered(*s, place, layer), load);
+    require("a trial has Check's answer for the copy", !memcmp(&tried, &checked, sizeof tried));
+    require("the section in hand is unchanged", !memcmp(&in_hand, s, sizeof in_hand));
+}
+
+static int is_a(const salwoerk_report *r)
+{
+    return r->refusal == 0 && r->u == 1358 && r->mrd == 257986051 && r->other_u == 419 && r->other_mrd == 6312569 && r->vrd == 86851
+        && r->dm == 450 && r->area == 1500;
+}
+
+/* Section A from one with another layer and from one with none; and a second layer, added to A and moved. */
+static void layer_tried(void)
+{
+    salwoerk_layer layer = { 450, 1500 }, second = { 50, 400 };
+    salwoerk_load load = { 0, 200000000, 80000 };
+    salwoerk_section other = section_a(), none = section_a(), two = linked_a(101, 200);
+    other.layers[0] = (salwoerk_layer){ 50, 600 };
+    none.layers[0] = (salwoerk_layer){ 0, 0 };
+    none.count = 0;
+    salwoerk_report r = salwoerk_try_layer(other, load, 0, layer);
+    require("A by a layer replaced", is_a(&r));
+    r = salwoerk_try_layer(none, load, 0, layer);
+    require("A by a layer added", is_a(&r));
+    require("neither section in hand has it", salwoerk_check(other, load).mrd != 257986051
+        && salwoerk_check(none, load).refusal == SALWOERK_LAYER_COUNT);
+    r = salwoerk_try_layer(section_a(), load, 1, second);
+    require("a second layer", r.refusal == 0 && r.u == 1052 && r.mrd == 264809313 && r.vrd == 86851);
+    two.count = 2;
+    two.layers[1] = second;
+    r = salwoerk_try_layer(two, load, 0, layer);
+    require("the links are kept", r.cotangent == 25 && r.link_resistance == 222308 && r.verdicts[5] == SALWOERK_PASS);
+    r = salwoerk_try_layer(linked_a(101, 200), load, 1, second);
+    require("and where a layer is added", r.cotangent == 25 && r.link_resistance == 222308 && r.verdicts[5] == SALWOERK_PASS);
+    for (uint32_t depth = 0; depth <= 500; depth += 25) require_tried(&two, load, 1, (salwoerk_layer){ depth, 1500 });
+}
+
+/* Every place, and the one after the last, of zero to sixteen layers of which no two are alike; a layer that is out of range is no refusal where the
+ * trial replaces it. */
+static void places_tried(void)
+{
+    salwoerk_section s = distinct_section();
+    for (s.count = 0; s.count <= SALWOERK_LAYERS; s.count++)
+        for (size_t place = 0; place <= s.count && place < SALWOERK_LAYERS; place++) {
+            require_tried(&s, distinct_load, place, (salwoerk_layer){ 1601, 1999 });
+            require("accepted", salwoerk_try_layer(s, distinct_load, place, (salwoerk_layer){ 1601, 1999 }).refusal == 0);
+        }
+    s = distinct_section();
+    s.layers[7].depth = 0;
+    for (size_t place = 0; place < SALWOERK_LAYERS; place++)
+        require("6 but where it is replaced", salwoerk_try_layer(s, distinct_load, place, (salwoerk_layer){ 1601, 1999 }).refusal
+            == (place == 7 ? SALWOERK_ACCEPTED : SALWOERK_LAYER_DEPTH));
+}
+
+/* A section that was read has its layers by rising depth, so the deepest, typed first, is the last there. */
+static void places_after_reading(void)
+{
+    uint8_t record[SALWOERK_RECORD_ROOM];
+    salwoerk_load load = { 0, 200000000, 80000 };
+    salwoerk_section typed = altered(section_a(), 1, (salwoerk_layer){ 50, 400 });
+    salwoerk_reading read = salwoerk_read(record, salwoerk_write(typed, load, record, sizeof record).length);
+    salwoerk_report first = salwoerk_try_layer(typed, load, 0, (salwoerk_layer){ 460, 1500 });
+    salwoerk_report last = salwoerk_try_layer(read.section, load, 1, (salwoerk_layer){ 460, 1500 });
+    require("a place of the section as it was read", first.refusal == 0 && first.dm == 460 && !memcmp(&first, &last, sizeof first));
+}
+
+/* The number, and with it zeros and verdicts 2. */
+static int is_refused(const salwoerk_report *r, uint64_t refusal)
+{
+    salwoerk_report expected = { .refusal = refusal, .verdicts = { 2, 2, 2, 2, 2, 2 } };
+    return !memcmp(r, &expected, sizeof expected);
+}
+
+/* 33 before every other test; then 5, where it stands in Check's sequence, for more than sixteen layers; then what Check refuses in the copy. */
+static void refused_trials(void)
+{
+    static const struct { size_t count, place; salwoerk_layer layer; int64_t fck, n; uint64_t refusal; } cases[] = {
+        { 1, 2, { 450, 1500 }, 30, 0, SALWOERK_LAYER_PLACE }, { 1, SIZE_MAX, { 450, 1500 }, 30, 0, SALWOERK_LAYER_PLACE },
+        { 0, 1, { 450, 1500 }, 30, 0, SALWOERK_LAYER_PLACE }, { 15, 16, { 450, 1500 }, 30, 0, SALWOERK_LAYER_PLACE },
+        { 16, 17, { 450, 1500 }, 30, 0, SALWOERK_LAYER_PLACE }, { 17, 18, { 450, 1500 }, 30, 0, SALWOERK_LAYER_PLACE },
+        { SIZE_MAX - 1, SIZE_MAX, { 450, 1500 }, 30, 0, SALWOERK_LAYER_PLACE }, { 1, 2, { 0, 0 }, 31, 500000001, SALWOERK_LAYER_PLACE },
+        { 16, 16, { 450, 1500 }, 30, 0, SALWOERK_LAYER_COUNT }, { 17, 0, { 450, 1500 }, 30, 0, SALWOERK_LAYER_COUNT },
+        { 17, 16, { 450, 1500 }, 30, 0, SALWOERK_LAYER_COUNT }, { 17, 17, { 450, 1500 }, 30, 0, SALWOERK_LAYER_COUNT },
+        { SIZE_MAX, 0, { 450, 1500 }, 30, 0, SALWOERK_LAYER_COUNT }, { SIZE_MAX, 16, { 450, 1500 }, 30, 0, SALWOERK_LAYER_COUNT },
+        { SIZE_MAX, SIZE_MAX - 1, { 450, 1500 }, 30, 0, SALWOERK_LAYER_COUNT }, { SIZE_MAX, SIZE_MAX, { 450, 1500 }, 30, 0, SALWOERK_LAYER_COUNT },
+        { 16, 16, { 0, 0 }, 31, 0, SALWOERK_CONCRETE }, { 16, 16, { 0, 0 }, 30, 500000001, SALWOERK_LAYER_COUNT },
+        { SIZE_MAX, SIZE_MAX, { 0, 0 }, 31, 0, SALWOERK_CONCRETE }, { 1, 0, { 0, 0 }, 30, 500000001, SALWOERK_LAYER_DEPTH },
+        { 1, 1, { 500, 0 }, 30, 500000001, SALWOERK_LAYER_DEPTH }, { 1, 0, { 499, 0 }, 30, 500000001, SALWOERK_LAYER_AREA },
+        { 1, 1, { 450, 20001 }, 30, 500000001, SALWOERK_LAYER_AREA }, { 1, 0, { 1, 20000 }, 30, 500000001, SALWOERK_AXIAL_FORCE },
+        { 1, 0, { 450, 1500 }, 30, -651691, SALWOERK_BELOW_RANGE }, { 1, 0, { 450, 1500 }, 30, 3441001, SALWOERK_ABOVE_RANGE },
+    };
+    for (size_t i = 0; i < sizeof cases / sizeof *cases; i++) {
+        salwoerk_section a = section_a();
+        salwoerk_load load = { cases[i].n, 0, 0 };
+        for (size_t k = 1; k < SALWOERK_LAYERS; k++) a.layers[k] = a.layers[0];
+        a.count = cases[i].count;
+        a.grade.fck = cases[i].fck;
+        salwoerk_report r = salwoerk_try_layer(a, load, cases[i].place, cases[i].layer);
+        require("a refused trial, zeros and verdicts 2", is_refused(&r, cases[i].refusal));
+    }
+}
+
+/* The places after the sixteenth would lie over the other fields of the section, from width to count. */
+static void no_place_beyond(void)
+{
+    static const salwoerk_layer layers[] = { { 0, 0 }, { 1, 0 }, { 2, 0 }, { UINT32_MAX, UINT32_MAX } };
+    salwoerk_load load = { 0, 0, 0 };
+    salwoerk_section s = distinct_section();
+    for (size_t place = SALWOERK_LAYERS; place < sizeof s / sizeof *s.layers; place++)
+        for (size_t i = 0; i < sizeof layers / sizeof *layers; i++)
+            for (s.count = place; s.count <= place + 1; s.count++) {
+                salwoerk_report r = salwoerk_try_layer(s, load, place, layers[i]);
+                require("5, and no other field is written over", is_refused(&r, SALWOERK_LAYER_COUNT));
+            }
+}
+
 static void list(void)
 {
     static const char line[] = "1 0 1358 257986051 86851 450 1500 0 0 0 0 0 0\n";
@@ -768,8 +898,8 @@ static void columns_in_a_list(void)
 /* Each number has a text of its own, and what is none has the text of none. */
 static void texts(void)
 {
-    static const uint64_t refusals[] = { 0, 1, 2, 3, 4, 5, 6, 7, 8, 9, 10, 11, 12, 13, 20, 21, 22, 23, 25, 26, 27, 28, 29, 31, 32, 34 };
-    static const uint64_t none[] = { 14, 19, 24, 30, 33, 35 };
+    static const uint64_t refusals[] = { 0, 1, 2, 3, 4, 5, 6, 7, 8, 9, 10, 11, 12, 13, 20, 21, 22, 23, 25, 26, 27, 28, 29, 31, 32, 33, 34 };
+    static const uint64_t none[] = { 14, 19, 24, 30, 35 };
     size_t count = sizeof refusals / sizeof *refusals;
     int alike = 0;
     for (size_t i = 0; i < count; i++) {
@@ -778,7 +908,7 @@ static void texts(void)
     }
     require("one text a refusal", !alike);
     for (size_t i = 0; i < sizeof none / sizeof *none; i++)
-        require("no refusal 14, 19, 24, 30, 33, 35", salwoerk_refusal_text(none[i]) == salwoerk_refusal_text(99));
+        require("no refusal 14, 19, 24, 30, 35", salwoerk_refusal_text(none[i]) == salwoerk_refusal_text(99));
     require("Table 3.1 behind 3", !strcmp(salwoerk_refusal_clause(SALWOERK_CONCRETE), "Table 3.1") && !*salwoerk_refusal_clause(SALWOERK_WIDTH));
     require("Table 2.1N behind 32", !strcmp(salwoerk_refusal_clause(SALWOERK_SITUATION), "Table 2.1N"));
     require("3.1.6(1) behind 34", !strcmp(salwoerk_refusal_clause(SALWOERK_ALPHA_CC), "3.1.6(1)"));
@@ -787,6 +917,8 @@ static void texts(void)
     require("verdict six is 6.2.3", !strcmp(salwoerk_verdict_clause(5), "6.2.3") && *salwoerk_verdict_question(5));
     require("no seventh verdict", !*salwoerk_verdict_clause(6) && !*salwoerk_verdict_question(6));
     require("links with N are refused by no clause", !*salwoerk_refusal_clause(SALWOERK_LINKS_WITH_AXIAL_FORCE));
+    require("nor is a place", !*salwoerk_refusal_clause(SALWOERK_LAYER_PLACE));
+    require("33 in words", !strcmp(salwoerk_refusal_text(SALWOERK_LAYER_PLACE), "place beyond the number of layers"));
     require("bits 7, 24 and 25 are no unknown bits",
         !strcmp(salwoerk_refusal_text(SALWOERK_UNKNOWN_BIT), "one of bits 26 to 31 of the map stands"));
     require("12 and 13 speak of depths up to 30h", strstr(salwoerk_refusal_text(SALWOERK_ABOVE_RANGE), " up to 30h")
@@ -822,6 +954,11 @@ int main(void)
     tie();
     present();
     refused_links();
+    layer_tried();
+    places_tried();
+    places_after_reading();
+    refused_trials();
+    no_place_beyond();
     list();
     grades_in_a_list();
     columns_in_a_list();

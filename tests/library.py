@@ -10,9 +10,11 @@ import ctypes
 from ctypes import POINTER, c_int64, c_size_t, c_uint8, c_uint32, c_uint64
 
 import second
+from layer_trials import all_trials, compare_trial, compare_turn, fixed_turns, made_by_trial, random_trials, random_turns
 from met import CASES, case_of, halved_depth, sequence_kinds, trial_turns
 from rearranged import compare_rearranged, compare_rearranged_writes
 from samples import SIXTEEN, U32_MAX, Sample, UNDER_LOAD, all_samples, record, with_layer
+from sampling import any_layer
 from second import LINK_TESTS, NO_LINKS, Layer, Links, Load, Section
 from tally import check_accuracy, check_accuracy_of_faces, check_stated
 
@@ -46,6 +48,7 @@ CALLS = {
     "write": ("salwoerk_write", ("Section", "Load", BYTES, c_size_t), "Written"),
     # input and its length, room for the text and its length
     "list": ("salwoerk_list", (BYTES, c_size_t, BYTES, c_size_t), "Written"),
+    "try_layer": ("salwoerk_try_layer", ("Section", "Load", c_size_t, "Layer"), "Report"),
 }
 
 GUARD = 16  # bytes on either side of a lent buffer, which must not change
@@ -121,12 +124,23 @@ class Engine:
         answer = self.calls["moment"](self.section(section), u)
         return answer.refusal, answer.moment
 
-    def check(self, section, load):
-        """The report, verdicts as numbers."""
-        answer = self.calls["check"](self.section(section), self.load(load))
+    @staticmethod
+    def report(answer):
+        """A report, verdicts as numbers."""
         return second.Report(answer.refusal, answer.u, answer.mrd, answer.other_u, answer.other_mrd,
                              answer.vrd, answer.dm, answer.area, answer.cotangent, answer.link_resistance,
                              tuple(answer.verdicts))
+
+    def check(self, section, load):
+        """The report."""
+        return self.report(self.calls["check"](self.section(section), self.load(load)))
+
+    def try_layer(self, section, load, place, layer):
+        """The report, and whether the section that was handed over has the bytes that it had."""
+        in_hand = self.section(section)
+        before = bytes(in_hand)
+        answer = self.calls["try_layer"](in_hand, self.load(load), place, self.structs["Layer"](*layer))
+        return self.report(answer), bytes(in_hand) == before
 
     def read(self, data):
         """The reading, with every place of the section's layers and the number that says of links."""
@@ -156,12 +170,6 @@ class Engine:
 # --- samples that only the library can meet ---------------------------------
 
 
-def any_layer(rng):
-    """Any bytes, or a layer that could be sorted in before others."""
-    return Layer(*rng.choice(((0, 0), (1, 1), (rng.randint(1, 2_000), rng.randint(1, 20_000)),
-                              (rng.getrandbits(32), rng.getrandbits(32)))))
-
-
 def beyond_count(rng, section):
     """'Places beyond the counted layers are never read': fill them with anything."""
     places = second.counted(section)
@@ -178,6 +186,11 @@ def as_any_links(rng, section):
         present = rng.choice((1, 1, 2, 256, 2**32, 2**63, 2**64 - 1, rng.randint(1, 2**64 - 1)))
         return section._replace(links=section.links._replace(present=present))
     return section
+
+
+def as_handed_over(rng, section):
+    """The same section with any bytes beyond its layers and any that say the same of links."""
+    return as_any_links(rng, beyond_count(rng, section))
 
 
 def links_refused(section, load):
@@ -415,6 +428,13 @@ def compare_list(tally, rng, engine, run):
         tally.compare(f"List, room {given}, {run.label}", run.data[:400].hex(), (answer, bytes(memory)), listed)
 
 
+def compare_made_by_trial(tally, rng, engine, sample):
+    """One sample in two once more, reached by a trial (02, request 9)."""
+    trial = made_by_trial(rng, sample)
+    if trial and rng.random() < 1 / 2:
+        compare_trial(tally, engine, trial, hexadecimal)
+
+
 SAMPLE_COMPARISONS = (
     (("find_depth", "moment"), compare_depth),
     (("moment",), compare_moment),
@@ -424,16 +444,28 @@ SAMPLE_COMPARISONS = (
     (("write",), compare_written_sequence),
     (("read",), compare_read_back),
     (("read",), compare_read_as_it_stands),
+    (("try_layer", "check"), compare_made_by_trial),
 )
 
 
 def compare_samples(tally, rng, engine, samples):
-    """Every call that takes a section, with any bytes beyond its layers and any that say the same of links."""
+    """Every call that takes a section."""
     for sample in samples:
-        sample = sample._replace(section=as_any_links(rng, beyond_count(rng, sample.section)))
+        sample = sample._replace(section=as_handed_over(rng, sample.section))
         for needed, comparison in SAMPLE_COMPARISONS:
             if engine.calls.keys() >= set(needed):
                 comparison(tally, rng, engine, sample)
+
+
+def compare_trials(tally, rng, engine, samples):
+    """Layers tried before they are placed (02, request 9): at places and bounds, at random, and where a verdict turns."""
+    def handed_over(trial):
+        return trial._replace(section=as_handed_over(rng, trial.section))
+
+    for trial in (*all_trials(), *random_trials(rng, samples)):
+        compare_trial(tally, engine, handed_over(trial), hexadecimal)
+    for turn in (*fixed_turns(), *random_turns(rng, samples)):
+        compare_turn(tally, engine, turn._replace(trials=[handed_over(trial) for trial in turn.trials]), hexadecimal)
 
 
 def compare_runs(tally, rng, engine, runs):
@@ -454,4 +486,6 @@ def compare_library(tally, rng, path, samples, runs):
     compare_samples(tally, rng, engine, all_samples())
     compare_samples(tally, rng, engine, count_samples())
     compare_samples(tally, rng, engine, samples)
+    if engine.calls.keys() >= {"try_layer", "check"}:
+        compare_trials(tally, rng, engine, samples)
     compare_runs(tally, rng, engine, runs)

@@ -6,10 +6,11 @@ and turns in each situation of request 8 of 02, both with αcc 100 and below it
 (request 10), and every αcc with every class in both situations, with depths up
 to 10h and beyond (request 11). Every number of trials that Find a depth can
 answer has to be met too (request 12), and layers in and out of the sequence of
-records, by each kind of step from a layer to the next (request 6).
+records, by each kind of step from a layer to the next (request 6). Of layers that
+are tried before they are placed (request 9) layer_trials.py says what has to be met.
 """
 
-from collections import Counter
+from collections import Counter, defaultdict
 from itertools import groupby, product
 from math import ceil
 from typing import NamedTuple
@@ -20,7 +21,7 @@ from samples import HALVED_HEIGHTS, depths_of_the_rule, faces_of, last_spacing, 
 LIST_REFUSALS = tuple(dict.fromkeys(
     second.SEQUENCES["Read a record"] + second.SEQUENCES["Check"] + second.SEQUENCES["List program"]))
 LIBRARY_REFUSALS = tuple(dict.fromkeys(
-    number for call in ("Find a depth", "Moment at a depth", "Write a record")
+    number for call in ("Find a depth", "Moment at a depth", "Write a record", "Try a layer")
     for number in second.SEQUENCES[call] if number not in LIST_REFUSALS))
 
 # 01 leaves verdicts one and five never "not reached" in an accepted record. Verdict six is so without
@@ -457,6 +458,7 @@ class Coverage:
         self.verdicts = {case: [Counter() for _ in REACHABLE] for case in CASES}
         self.turns = {case: Counter() for case in CASES}
         self.calls = Counter()
+        self.tried = defaultdict(Counter)  # by groups, of layers tried before they are placed
 
     def note(self, report, subject):
         """Count a list line of these bytes."""
@@ -491,6 +493,10 @@ class Coverage:
         """Count what reading a record, its layers, an αcc or one call of the library met, in whichever case."""
         self.calls[name] += met
 
+    def note_tried(self, group, name, met):
+        """Count what trying a layer met (02, request 9), one line of the table for each group."""
+        self.tried[group][name] += met
+
     def note_axial_turns(self, section, load):
         """Count where N of a sample stands that is accepted, 11 or 12."""
         self.note_case(section, axial_turns(section, load))
@@ -516,6 +522,8 @@ class Coverage:
                         for place, values in enumerate(REACHABLE, 1) for value in values
                         if not self.verdicts[case][place - 1][value]]
             missing += [f"{name}, {case}" for name in self.turn_names() if not self.turns[case][name]]
+        missing += [f"Try a layer, {group}: {name}" for group, counter in self.tried.items()
+                    for name, times in counter.items() if not times]
         return missing + [name for name, times in self.calls.items() if not times]
 
     def table(self):
@@ -540,3 +548,7 @@ class Coverage:
         yield "values that could be missing and are there, layers, what αcc alters, then calls of the library"
         for name, times in self.calls.items():
             yield f"  {name}: {times}"
+        if self.tried:
+            yield "layers tried before they are placed"
+        for group, counter in self.tried.items():
+            yield f"  {group}: " + ", ".join(f"{name}: {times}" for name, times in counter.items())

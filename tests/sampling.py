@@ -36,6 +36,12 @@ def held(number, least, most):
     return max(least, min(number, most))
 
 
+def any_layer(rng):
+    """Any bytes, or a layer that could be sorted in before others."""
+    return Layer(*rng.choice(((0, 0), (1, 1), (rng.randint(1, 2_000), rng.randint(1, 20_000)),
+                              (rng.getrandbits(32), rng.getrandbits(32)))))
+
+
 # --- sections ---------------------------------------------------------------
 
 

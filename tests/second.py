@@ -11,9 +11,10 @@ Run by itself it answers every row of "Reference cases" and prints 'ok' or
 'DIFFERS' for each; the expected values there are the papers', and the project's
 own for the section that no M suits, for the links, for the accidental situation,
 for αcc below 1, for most depths beyond 10h, for the trials of the halving rule, some
-of which are worked out by hand, for the same bars in another sequence and for the one
-sequence of layers on disk. Both searches answer beside the plain look at every depth,
-for random sections whose seed is printed.
+of which are worked out by hand, for the same bars in another sequence, for the one
+sequence of layers on disk and for most layers that are tried before they are placed.
+Both searches answer beside the plain look at every depth, for random sections whose
+seed is printed.
 """
 
 import random
@@ -931,6 +932,7 @@ LINK_TESTS = (27, 28, 29)  # of request 3 of 02, "directly after 10"
 FACE_TESTS = (11, 12)
 MAP_TESTS = (20, 21, 22, 23)
 SEQUENCE_TEST = 31  # of request 6 of 02, "in the reader only, after 7"
+PLACE_TEST = 33  # of request 9 of 02, "tested first"
 
 SEQUENCES = {
     "Find a depth": (*SECTION_TESTS, 8, *FACE_TESTS),
@@ -939,6 +941,7 @@ SEQUENCES = {
     "Read a record": (*MAP_TESTS, *SECTION_TESTS, SEQUENCE_TEST, *LOAD_TESTS, *LINK_TESTS),
     "Write a record": (*SECTION_TESTS, *LOAD_TESTS, *LINK_TESTS, 25),
     "List program": (26,),
+    "Try a layer": (PLACE_TEST, *SECTION_TESTS, *LOAD_TESTS, *LINK_TESTS, *FACE_TESTS),
 }
 
 
@@ -1072,6 +1075,31 @@ def check(section, load):
     refusal = (first_failing(tests_by_value(section, load))
                or first_failing(face_tests(section, load)))
     return refused(refusal) if refusal else report_of(section, load)
+
+
+def place_test(section, place):
+    """'33 place beyond the number of layers, tested first' (02, request 9)."""
+    return ((PLACE_TEST, place > section.count),)
+
+
+def altered(section, place, layer):
+    """The copy of request 9 of 02: 'replacing one layer, named by its place from 0, with another
+    depth and area'; 'a place equal to the number of layers adds one'.
+
+    The number may be one that 5 refuses, and the place one that no section has: the copy has
+    that number, or one more, and no test of Check that comes before 5 looks at a layer.
+    """
+    layers, number = counted(section), section.count
+    if place == number:  # "adds one"
+        return section._replace(layers=(*layers, layer), count=number + 1)
+    return section._replace(layers=(*layers[:place], layer, *layers[place + 1:]))
+
+
+def try_layer(section, load, place, layer):
+    """Try a layer (02, request 9): 33, then 'the one that Check gives for a copy so altered,
+    refusals included, and the section in hand is unchanged'."""
+    refusal = first_failing(place_test(section, place))
+    return refused(refusal) if refusal else check(altered(section, place, layer), load)
 
 
 UNREADABLE = (20, 21, 22)  # refusals after which no length is known
@@ -2189,6 +2217,207 @@ def stored_random_rows(rng):
     ]
 
 
+# Request 9 of 02: place and layer, then the answer for A under the load of the examples. By hand: a layer that yields has
+# one force at every depth, so at 400 A keeps its u, and MRd is 127,552,051 of the concrete, as at 450, and 652,170·150.
+# 1,501 mm² have 652,604.78 N, and 480·1,359 is 652,320: MRd 127,619,884 + 130,520,956. 20,000 mm² do not yield:
+# 480u + 14,000,000·(u−4,500)/u is −3,794 at 3,961 and 700 at 3,962. With a layer 50/500 more 480u + 350,000·(u−500)/u −
+# 652,170 is −449 at 995 and 207 at 996, and As, dm and VRd,c stay those of A.
+TRIED_IN_A = (
+    (0, (450, 1_500), (0, 1_358, 257_986_051, 419, 6_312_569, 86_851, 450, 1_500, 0, 0, (0, 0, 0, 0, 0, 2))),
+    (0, (400, 1_500), (0, 1_358, 225_377_551, 745, 24_834_124, 82_271, 400, 1_500, 0, 0, (0, 0, 0, 0, 0, 2))),
+    (0, (450, 1_501), (0, 1_359, 258_140_840, 419, 6_285_504, 86_878, 450, 1_501, 0, 0, (0, 0, 0, 0, 0, 2))),
+    (0, (450, 20_000), (0, 3_961, 555_096_091, 491, 2_967_415, 105_635, 450, 20_000, 0, 0, (0, 1, 0, 0, 1, 2))),
+    (0, (50, 1_500), (0, 419, 6_312_569, 1_358, 257_986_051, 14_090, 50, 1_500, 0, 0, (1, 1, 1, 0, 0, 2))),
+    (1, (50, 500), (0, 995, 265_649_640, 491, 93_919_956, 86_851, 450, 1_500, 0, 0, (0, 0, 0, 0, 0, 2))),
+    (0, (450, 20_001), (7, 0, 0, 0, 0, 0, 0, 0, 0, 0, (2, 2, 2, 2, 2, 2))),
+    (0, (500, 1_500), (6, 0, 0, 0, 0, 0, 0, 0, 0, 0, (2, 2, 2, 2, 2, 2))),
+    (2, (50, 500), (33, 0, 0, 0, 0, 0, 0, 0, 0, 0, (2, 2, 2, 2, 2, 2))),
+)
+BARE_A = SECTION_A._replace(layers=(), count=0)
+OTHER_A = section_of(300, 500, 30, 500, [(50, 600)])  # A before its own layer is tried
+STEEP = section_of(300, 500, 30, 500, [(450 - 10 * place, 200) for place in range(PLACES)])
+
+
+def tried(section, place, layer, load=EXAMPLE_LOAD):
+    """The answer where this depth and area are tried at a place."""
+    return try_layer(section, load, place, Layer(*layer))
+
+
+def refusals_tried(section, layer, *places):
+    """The refusals of this layer at each of these places."""
+    return [tried(section, place, layer).refusal for place in places]
+
+
+def tried_rows():
+    """Request 9 of 02: other layers in A; then A and other sections of these rows, each reached by a trial."""
+    own, top = (450, 1_500), (50, 600)
+    line, two_lines = (text.splitlines(keepends=True)[1] for text in (EXAMPLE_LIST, TWO_LIST))
+    three = section_of(300, 500, 30, 500, THREE_BARS)
+    return [(f"A, layer {layer} tried at place {place}", tried(SECTION_A, place, layer), answer)
+            for place, layer, answer in TRIED_IN_A] + [
+        ("A by a trial, its line in 01: the layer added to none, in place of another, and in its own place",
+         [list_line(1, tried(section, 0, own)) for section in (BARE_A, OTHER_A, SECTION_A)], [line] * 3),
+        ("A and a layer 50/600 by a trial: either of both added",
+         [list_line(1, tried(SECTION_A, 1, top)), list_line(1, tried(OTHER_A, 1, own))], [two_lines] * 2),
+        ("A by a trial, M -1: u and MRd", tried(OTHER_A, 0, own, Load(0, -1, 0))[1:3], (419, 6_312_569)),
+        ("A by a trial: the least N, and 11",
+         [tried(BARE_A, 0, own, Load(n, 0, 0))[:2] for n in (-651_690, -651_691)], [(0, 1), (11, 0)]),
+        ("A by a trial, N -651,690: M from 130,314,020 to 130,553,980",
+         [tried(OTHER_A, 0, own, Load(-651_690, m, 0)).verdicts[0]
+          for m in (130_314_019, 130_314_020, 130_553_980, 130_553_981)], [FAIL, PASS, PASS, FAIL]),
+        ("three layers, each in turn the one that is tried",
+         {tried(altered(three, place, Layer(1, 1)), place, bar) for place, bar in enumerate(THREE_BARS)},
+         {check(three, EXAMPLE_LOAD)}),
+        ("what stands beyond the number of layers has no part", {
+            tried(SECTION_A._replace(layers=counted(SECTION_A) + (Layer(*beyond),) * 15), 1, (50, 500))
+            for beyond in ((0, 0), own, (2**32 - 1, 2**32 - 1))}, {TRIED_IN_A[5][2]}),
+    ]
+
+
+def tried_verdict_rows():
+    """Request 9 of 02: the unit of the tried layer's area or depth at which each verdict turns. By hand: 480·2,026
+    is 2,236.7 times 434.78; 26·29·300·450 is 1,000·500 times 203.6; 25·6,000 is 300·500; 0.75·267 is 200.25; a layer at
+    the depth u has no force, and 480·4,166.7 is 2,000,000."""
+    linked = with_links(SECTION_A, 101, 200)
+
+    def verdicts(number, place, *layers, load=EXAMPLE_LOAD):
+        return [tried(linked, place, layer, load).verdicts[number - 1] for layer in layers]
+
+    return [
+        ("verdict one, M 200,000,000: area from 1,124", verdicts(1, 0, (450, 1_123), (450, 1_124)), [FAIL, PASS]),
+        ("verdict one, M -200,000,000: a layer at 50 added, area from 1,109",
+         verdicts(1, 1, (50, 1_108), (50, 1_109), load=Load(0, -200_000_000, 0)), [FAIL, PASS]),
+        ("verdict two: area to 2,236", verdicts(2, 0, (450, 2_236), (450, 2_237)), [PASS, FAIL]),
+        ("verdict two: a layer at 430 added, area to 701", verdicts(2, 1, (430, 701), (430, 702)), [PASS, FAIL]),
+        ("verdict three, V 80,000: area from 1,173", verdicts(3, 0, (450, 1_172), (450, 1_173)), [FAIL, PASS]),
+        ("verdict four: area from 204", verdicts(4, 0, (450, 203), (450, 204)), [FAIL, PASS]),
+        ("verdict five: area to 6,000", verdicts(5, 0, (450, 6_000), (450, 6_001)), [PASS, FAIL]),
+        ("verdict five: a layer added, area to 4,500", verdicts(5, 1, (50, 4_500), (50, 4_501)), [PASS, FAIL]),
+        ("verdict six, spacing 200: depth from 267", verdicts(6, 0, (266, 1_500), (267, 1_500)), [FAIL, PASS]),
+        ("verdict six, V 200,000: depth from 405",
+         verdicts(6, 0, (404, 1_500), (405, 1_500), load=Load(0, 0, 200_000)), [FAIL, PASS]),
+        ("the cotangent and what the links resist at 405", tried(linked, 0, (405, 1_500))[8:10], (25, 200_077)),
+        ("a layer with dm 50: two and six fail", tried(linked, 0, (50, 1_500), NO_LOAD).verdicts, (0, 1, 0, 0, 0, 1)),
+        ("N 2,000,000: in tension from depth 417, where u is 4,167; at 416 it is 4,164", [
+            (answer.u, answer.verdicts[1:4]) for answer in (
+                tried(SECTION_A, 0, (depth, 1_500), Load(2_000_000, 0, 0)) for depth in (416, 417))],
+         [(4_164, (2, 2, 2)), (4_167, (1, 0, 0))]),
+    ]
+
+
+def tried_column_rows():
+    """Request 9 of 02: depths beyond 10h. By hand: at 250, where the strain line turns, the layer has 350 N/mm² at every
+    depth, 525,000 N, and the concrete 480u. So u is 6,076 under N 3,441,001, which A does not reach, and MRd is that of
+    2,916,480 N at 6.96 mm; under 3,000,000 it is 5,157, with 2,475,360 N at 43.72 mm."""
+    a, middle, last = SECTION_A, (250, 1_500), Load(3_441_001, 0, 0)
+    return [
+        ("A by a trial, N 2,505,001: both faces", tried(OTHER_A, 0, (450, 1_500), Load(2_505_001, 0, 0))[:5],
+         (0, 5_001, 98_894_393, 3_860, 307_561_680)),
+        ("A, N 3,000,000: its layer tried at 250", tried(a, 0, middle, Load(3_000_000, 1, 2)),
+         (0, 5_157, 108_222_739, 5_157, 108_222_739, 0, 0, 0, 0, 0, (0, 2, 2, 2, 0, 2))),
+        ("A, N 3,441,001: 12 of A, and its layer tried at 250", (check(a, last).refusal, tried(a, 0, middle, last)),
+         (12, (0, 6_076, 20_298_700, 6_076, 20_298_700, 0, 0, 0, 0, 0, (0, 2, 2, 2, 0, 2)))),
+        ("the same: M to 20,298,700 of either sign",
+         [tried(a, 0, middle, Load(3_441_001, m, 0)).verdicts[0]
+          for m in (20_298_700, 20_298_701, -20_298_700, -20_298_701)], [PASS, FAIL, PASS, FAIL]),
+        ("A, N 3,441,001, M -1: a layer 50/500 added", tried(a, 1, (50, 500), Load(3_441_001, -1, 0)),
+         (0, 5_676, 180_028_362, 6_212, -416_450, 0, 0, 0, 0, 0, (1, 2, 2, 2, 0, 2))),
+        ("A by a trial: the last N of all, and 12",
+         [tried(OTHER_A, 0, (450, 1_500), Load(n, 0, 0))[:2] for n in (3_441_000, 3_441_001)], [(0, 15_000), (12, 0)]),
+    ]
+
+
+def tried_sixteen_rows():
+    """Request 9 of 02: 'which with sixteen layers meets refusal 5'; and numbers of layers that no section has."""
+    most, layer = 2**64 - 1, (40, 300)
+    beyond = (17, 2**32, 2**63, most)
+    answer = (0, 2_233, 361_644_195, 997, 116_815_993, 92_362, 380, 3_000, 0, 0, (0, 1, 0, 0, 0, 2))
+
+    def refusals(count, *places):
+        return refusals_tried(STEEP._replace(count=count), layer, *places)
+
+    return [
+        ("sixteen layers, the last replaced", tried(STEEP, 15, layer), answer),
+        ("fifteen layers, the same one added", tried(STEEP._replace(count=15), 15, layer), answer),
+        ("sixteen layers: each place, the one that adds, and the next",
+         refusals(PLACES, *range(18)), [0] * 16 + [5, 33]),
+        ("fewer layers: the first place, the one that adds, and the next",
+         [refusals(count, 0, count, count + 1) for count in range(PLACES)], [[0, 0, 33]] * PLACES),
+        ("17, 2^32, 2^63 and 2^64 - 1 layers: places 0, 15 and 16, the last one, and the one that adds",
+         [refusals(count, 0, 15, 16, count - 1, count) for count in beyond], [[5] * 5] * 4),
+        ("17, 2^32 and 2^63 layers: the place after that, and 2^64 - 1",
+         [refusals(count, count + 1, most) for count in beyond[:-1]], [[33, 33]] * 3),
+        ("0, 1, 15 and 16 layers: places 17, 2^32, 2^63 and 2^64 - 1",
+         [refusals(count, *beyond) for count in (0, 1, 15, 16)], [[33] * 4] * 4),
+    ]
+
+
+def failing_each(section):
+    """By the number of each test of Check: the section and a load of which it is the first to fail, 6 and 7 by the last
+    layer."""
+    most, layers = 500_000_000, counted(section)
+
+    def with_last(depth, area):
+        return section._replace(layers=(*layers[:-1], Layer(depth, area)))
+
+    return {
+        1: (section._replace(width=49), NO_LOAD), 2: (section._replace(height=49), NO_LOAD),
+        3: (section._replace(fck=31), NO_LOAD), 4: (section._replace(fyk=601), NO_LOAD),
+        32: (section._replace(situation=0), NO_LOAD), 34: (section._replace(alpha_cc=79), NO_LOAD),
+        5: (section._replace(count=17), NO_LOAD), 6: (with_last(500, 200), NO_LOAD), 7: (with_last(450, 0), NO_LOAD),
+        8: (section, Load(most + 1, 0, 0)), 9: (section, Load(0, 10**12 + 1, 0)), 10: (section, Load(0, 0, -most - 1)),
+        27: (with_links(section, 0, 200), NO_LOAD), 28: (with_links(section, 101, 24), NO_LOAD),
+        29: (with_links(section, 101, 200), Load(1, 0, 0)),
+        11: (section, Load(-most, 0, 0)), 12: (section, Load(most, 0, 0)),
+    }
+
+
+def tried_refusal_rows():
+    """Request 9 of 02: 33 'tested first', and 5 'at its place in Check's sequence'."""
+    def refusals(section, from_count, layer=(40, 300)):
+        return {number: tried(there, there.count + from_count, layer, load).refusal
+                for number, (there, load) in failing_each(section).items()}
+
+    two, each = STEEP._replace(count=2), SEQUENCES["Check"]
+    as_they_are, before_5 = {number: number for number in each}, (1, 2, 3, 4, 32, 34)
+    return [
+        ("33 before every other", refusals(two, 1), dict.fromkeys(each, 33)),
+        ("33 before every other, and the layer out of range too", refusals(two, 1, (0, 0)), dict.fromkeys(each, 33)),
+        ("every other where a layer is added", refusals(two, 0), as_they_are),
+        ("every other where the first of two layers is replaced", refusals(two, -2), as_they_are),
+        ("6 and 7 mended where the last is replaced", refusals(two, -1), {**as_they_are, 6: 0, 7: 0}),
+        ("sixteen layers and one more: 1, 2, 3, 4, 32 and 34 before 5, and 5 before the others",
+         refusals(STEEP, 0), {number: number if number in before_5 else 5 for number in each}),
+        ("sixteen layers and one more out of range: 5 before 6 and 7",
+         [tried(STEEP, 16, layer).refusal for layer in ((0, 200), (500, 200), (450, 0), (450, 20_001))], [5] * 4),
+        ("h 49 with one layer: places 2 and 1", refusals_tried(SECTION_A._replace(height=49), (40, 300), 2, 1), [33, 2]),
+    ]
+
+
+def tried_range_rows():
+    """Request 9 of 02: 6 and 7 of the layer that is tried, and of the one that it replaces."""
+    failing = failing_each(STEEP._replace(count=2))
+    (deep, _), (empty, _) = failing[6], failing[7]
+
+    def at_both(layer):
+        return refusals_tried(SECTION_A, layer, 0, 1)
+
+    return [
+        ("depths 0, 1, 499, 500 and 2^32 - 1: replaced and added",
+         [at_both((depth, 1_500)) for depth in (0, 1, 499, 500, 2**32 - 1)], [[6, 6], [0, 0], [0, 0], [6, 6], [6, 6]]),
+        ("areas 0, 1, 20,000, 20,001 and 2^32 - 1: added to A",
+         [at_both((450, area))[1] for area in (0, 1, 20_000, 20_001, 2**32 - 1)], [7, 0, 0, 7, 7]),
+        ("areas 0, 1, 20,000, 20,001 and 2^32 - 1: in place of its own; at depth 1 the concrete has 480 N, 1 mm² 434.78",
+         [at_both((450, area))[0] for area in (0, 1, 20_000, 20_001, 2**32 - 1)], [7, 11, 0, 7, 7]),
+        ("a section that 6 refuses: mended at that place alone", refusals_tried(deep, (40, 300), 0, 1, 2), [6, 0, 6]),
+        ("a section that 7 refuses: mended at that place alone", refusals_tried(empty, (40, 300), 0, 1, 2), [7, 0, 7]),
+        ("6 before 7, whichever layer is tried",
+         [tried(*trial).refusal for trial in ((deep, 0, (450, 0)), (empty, 0, (0, 200)), (empty, 2, (0, 0)))], [6, 6, 6]),
+        ("a section without layers: one added",
+         [check(BARE_A, EXAMPLE_LOAD).refusal, tried(BARE_A, 0, (450, 1_500)).refusal], [5, 0]),
+    ]
+
+
 def block_rows():
     """Ticket 5: 80 times the depth factor and 1,000 times the strength factor of each class."""
     above_50 = {55: (63, 975), 60: (62, 950), 70: (60, 900), 80: (58, 850), 90: (56, 800)}
@@ -2234,6 +2463,7 @@ def sequence_rows():
         ("tests of Read a record", MAP_TESTS + of_record, SEQUENCES["Read a record"]),
         ("tests of Read a record, written out", SEQUENCES["Read a record"],
          (20, 21, 22, 23, 1, 2, 3, 4, 32, 34, 5, 6, 7, 31, 8, 9, 10, 27, 28, 29)),
+        ("tests of Try a layer", numbers(place_test(SECTION_A, 0)) + SEQUENCES["Check"], SEQUENCES["Try a layer"]),
         ("tests of Write a record", numbers(tests_by_value(SECTION_A, NO_LOAD)) + (25,), SEQUENCES["Write a record"]),
         ("bits of no field", FORBIDDEN_BITS, (26, 27, 28, 29, 30, 31)),
         ("bytes of the longest record", LONGEST_RECORD, 212),
@@ -2256,7 +2486,8 @@ def main():
             + trial_rows() + trial_refusal_rows() + trial_count_rows() + halving_rows(random.Random(seed))
             + rearranged_rows() + stored_sequence_rows() + stored_sixteen_rows() + stored_refusal_rows()
             + stored_write_rows() + stored_random_rows(random.Random(seed))
-            + block_rows() + refusal_rows() + sequence_rows())
+            + tried_rows() + tried_verdict_rows() + tried_column_rows() + tried_sixteen_rows() + tried_refusal_rows()
+            + tried_range_rows() + block_rows() + refusal_rows() + sequence_rows())
     for name, computed, expected in rows:
         same = computed == expected
         failed += not same

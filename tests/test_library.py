@@ -17,6 +17,40 @@ int main(void)
 }
 """
 
+DRAGGED = """\
+beam: three bars of 20 mm, from the top to the bottom
+depth, mm           6.1     5.6.3(2)        6.2.2   9.2.1.1(1)   9.2.1.1(3)        6.2.3
+0           refused, 6: a layer's depth not 1 to h-1 mm
+1 to 135           fail         pass         fail         pass         pass         pass
+136 to 176         fail         pass         fail         pass         pass         fail
+177 to 237         fail         fail         fail         pass         pass         fail
+238 to 279         fail         fail         pass         pass         pass         fail
+280 to 320         pass         fail         pass         pass         pass         fail
+321 to 499         pass         fail         pass         pass         pass         pass
+500         refused, 6: a layer's depth not 1 to h-1 mm
+
+beam: the number of those bars, at 400 mm
+bars                6.1     5.6.3(2)        6.2.2   9.2.1.1(1)   9.2.1.1(3)        6.2.3
+0           refused, 7: a layer's area not 1 to 20,000 mm2
+1                  fail         pass         pass         pass         pass         pass
+2                  pass         pass         pass         pass         pass         pass
+3 to 6             pass         fail         pass         pass         pass         pass
+
+beam: a third layer, of bars of 20 mm at 50 mm, beside three at 400 mm
+bars                6.1     5.6.3(2)        6.2.2   9.2.1.1(1)   9.2.1.1(3)        6.2.3
+0           refused, 7: a layer's area not 1 to 20,000 mm2
+1 to 4             pass         pass         pass         pass         pass         pass
+
+column: three bars of 25 mm, from the top to the bottom
+depth, mm           6.1     5.6.3(2)        6.2.2   9.2.1.1(1)   9.2.1.1(3)        6.2.3
+0           refused, 6: a layer's depth not 1 to h-1 mm
+1 to 109           pass  not reached  not reached  not reached         pass  not reached
+110 to 211         pass         fail         fail         pass         pass  not reached
+212 to 390         pass         fail         pass         pass         pass  not reached
+391 to 399         pass         pass         pass         pass         pass  not reached
+400         refused, 6: a layer's depth not 1 to h-1 mm
+"""
+
 
 def output_of(*words):
     """What a command prints, errors too, and that it ended well."""
@@ -69,6 +103,12 @@ class Library(CommandTest):
                                       "the other face: u 431.3 mm (compressed over the full height), MRd 169948995 N mm"])
         self.assertEqual([line.split(": ")[1] for line in column[2:]], ["pass", *["not reached"] * 3, "pass", "not reached"])
 
+    def test_the_example_of_a_drag(self):
+        self.maxDiff = None
+        status, text = output_of(self.compiled(EXAMPLES / "drag.c", "-std=c99"))
+        self.assertEqual(text, DRAGGED)
+        self.assertEqual(status, 0)
+
     def test_the_example_in_python(self):
         self.assertEqual(output_of("python3", EXAMPLES / "check.py", SHARED),
                          (0, "0 1358 257986051 419 6312569 86851 450 1500 25 222308 0 0 0 0 0 0\n"
@@ -78,6 +118,6 @@ class Library(CommandTest):
     def test_the_library_gives_no_other_names(self):
         _, text = output_of("nm", "-D", "--defined-only", SHARED)
         names = {line.split()[-1] for line in text.splitlines() if " T " in line}
-        calls = {f"salwoerk_{call}" for call in ("find_depth", "moment_at", "check", "read", "write", "list")}
+        calls = {f"salwoerk_{call}" for call in ("find_depth", "moment_at", "check", "try_layer", "read", "write", "list")}
         self.assertLessEqual(calls, names)
         self.assertEqual({name for name in names - calls if not name.startswith("_")}, set())

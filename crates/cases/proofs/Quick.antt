@@ -7,6 +7,7 @@ use mathlib.Core.Path.{◌≡◌, refl, sym, ap, ◌∙◌}
 use native.Mathlib.Omega.{arith}
 use lib.Dec.{T, eqb, leb, eqb_refl}
 use lib.IntN.{ℤ}
+use lib.ListN.{length}
 use borrow.Author.Tests.{leb-true, eqb-true, ne_eqb}
 use Rattle.std.specs.Prelude.{Option, None, Some, Result, Ok, Err}
 use Rattle.refusals.specs.declared.Refusal.{Refusal}
@@ -26,6 +27,7 @@ use Rattle.section.specs.Load.{force_ok}
 use Rattle.section.specs.Refusals.{accepted, load_link_tests}
 use Rattle.section.specs.Code.Usable.{Bounded, Usable}
 use Rattle.section.specs.Turned.{turned}
+use Rattle.section.specs.Code.Altered.{with_layer}
 use Rattle.section.proofs.Turned.{usable_turned}
 use Rattle.section.proofs.Usable.{usable_by}
 use Rattle.beyond.specs.Depth.{least_reaching}
@@ -41,7 +43,8 @@ use Rattle.clauses.specs.declared.Report.{Report}
 use Rattle.clauses.specs.Compressed.{of_compressed, of_other}
 use Rattle.clauses.specs.Check.{listed, report_at, check_faces, check_of}
 use Rattle.clauses.proofs.Checking.{load_passed, top_refused, bottom_refused, both-reached}
-use Rattle.cases.specs.Case.{DepthRow, is_found, depth_holds, CheckRow, same_listed, check_holds}
+use Rattle.clauses.proofs.Trial.{trial_copied}
+use Rattle.cases.specs.Case.{DepthRow, is_found, depth_holds, CheckRow, same_listed, check_holds, LayerRow, layer_holds}
 use Rattle.cases.proofs.Tried.{answers_by, answered}
 
 -- ---- u is the depth of a face under N, 0 for none: up to 10h it carries and the next tenth does not, or it is 10h; beyond 10h it is what the
@@ -189,7 +192,7 @@ module _ (s : Section) (load : Load) (l : Listed) where
       let loaded = both_true (eqb (number_or_0 (first_failing (load_link_tests (links_of s) load))) 0) _ h in
       let faces = both_true (carries x (layers_of s) load.n 1) _ loaded.1 in
       let w = usable_by s e in
-      ap (λ r. same_listed (listed r) l) (sym (load_passed s load e (none_by _ (eqb-true _ 0 loaded.0))))
+      ap (λ r. same_listed (listed r) l) (sym (load_passed (counted s) (links_of s) load e (none_by _ (eqb-true _ 0 loaded.0))))
       ∙ by_cond (λ t. t ≡ true → same_listed (listed (answer w faces.0)) l ≡ true) (eqb l.refusal 0) (λ t. reported_sound w faces.0)
       (λ f. refused_sound w faces.0) faces.1
 
@@ -220,6 +223,23 @@ shows_sound : (row : CheckRow) (done : Bool)
 shows_sound row true h = reports_sound row.section row.load row.lists (accepted (counted row.section)) refl h
 shows_sound row false h = h
 
+-- a trial at a place that is not beyond the number of layers is Check's of the section in hand, once it is altered
+abbrev in_hand : LayerRow → CheckRow
+in_hand row = record { section = with_layer row.place row.layer row.section; load = row.load; lists = row.lists }
+
+abbrev there : LayerRow → Bool
+there row = eqb (length row.section.layers) 16 && leb row.place row.section.count
+
+abbrev pub shows_layer : LayerRow → Bool
+shows_layer row = cond (there row) (shows (in_hand row)) (layer_holds row)
+
+layer_sound : (row : LayerRow) (t : Bool) → there row ≡ t → cond t (shows (in_hand row)) (layer_holds row) ≡ true → layer_holds row ≡ true
+layer_sound row false e h = h
+layer_sound row true e h =
+    let at = both_true (eqb (length row.section.layers) 16) (leb row.place row.section.count) e in
+    let copied = trial_copied row.section row.load row.place row.layer (eqb-true _ 16 at.0) (leb-true row.place row.section.count at.1) in
+    ap (λ r. same_listed (listed r) row.lists) copied ∙ shows_sound (in_hand row) (eqb row.lists.refusal 0 || eqb row.lists.refusal 12) h
+
 -- what holds of each row holds of all
 module _ {A : Type 0} (p q : A → Bool) (each : (x : A) → p x ≡ true → q x ≡ true) where
   all_sound : (xs : List A) → T (every p xs) → T (every q xs)
@@ -233,3 +253,6 @@ depths_sound = all_sound tries depth_holds (λ row. tries_sound row (found row) 
 
 pub checks_sound : (rows : List CheckRow) → T (every shows rows) → T (every check_holds rows)
 checks_sound = all_sound shows check_holds (λ row. shows_sound row (eqb row.lists.refusal 0 || eqb row.lists.refusal 12))
+
+pub layers_sound : (rows : List LayerRow) → T (every shows_layer rows) → T (every layer_holds rows)
+layers_sound = all_sound shows_layer layer_holds (λ row. layer_sound row (there row) refl)

@@ -31,6 +31,7 @@ use Rattle.record.specs.Read.{read_of}
 use Rattle.record.specs.Write.{bytes_written}
 use Rattle.clauses.specs.declared.Listed.{Listed}
 use Rattle.clauses.specs.Check.{listed, check_of}
+use Rattle.clauses.specs.Trial.{trial_of}
 
 -- a section with these links
 abbrev pub with_links : Links → Section → Section
@@ -170,3 +171,14 @@ pub record CheckRow : Type 0 where
 
 abbrev pub check_holds : CheckRow → Bool
 check_holds row = same_listed (listed (check_of row.section row.load)) row.lists
+
+-- a row of Try a layer: a section, a load, a place and a layer; then what is listed
+pub record LayerRow : Type 0 where
+  pub section : Section
+  pub load : Load
+  pub place : ℕ
+  pub layer : Layer
+  pub lists : Listed
+
+abbrev pub layer_holds : LayerRow → Bool
+layer_holds row = same_listed (listed (trial_of row.section row.load row.place row.layer)) row.lists

@@ -1,9 +1,10 @@
--- Worked cases; that they hold, one computed test over the definitions, is `cases_hold`, `depths_hold` and `checks_hold` of the proofs.
+-- Worked cases; that they hold, one computed test over the definitions, is `cases_hold`, `depths_hold`, `checks_hold` and `layers_hold` of
+-- the proofs.
 -- Every case of document 01 that is marked (P) has its rows here, in 01's order, those of Find a depth and of Check in lists of their own.
 -- Beside them stand the example of 01's list, the refusals 11 and 12 also as Check gives them, every class of the table with the letters
 -- that follow from it, and both ends of the steel's range with what lies beyond; at the end, the cases of 02's requests 1, 3, 8, 10, 6,
--- 11, 12 and 2, with numbers of the paper or of the second implementation. Assumes nothing.
-use Rattle.std.specs.Prelude.{ℕ, ◌/◌, ◌%◌, List, [], ◌∷◌, ◌++◌, ℤ, pos, neg_ℤ, replicate}
+-- 11, 12, 2 and 9, with numbers of the paper or of the second implementation. Assumes nothing.
+use Rattle.std.specs.Prelude.{ℕ, ◌-◌, ◌/◌, ◌%◌, ◌^◌, List, [], ◌∷◌, ◌++◌, ℤ, pos, neg_ℤ, replicate}
 use Rattle.materials.specs.declared.Grade.{Grade}
 use Rattle.section.specs.declared.Layer.{Layer}
 use Rattle.section.specs.declared.Section.{Section}
@@ -15,7 +16,7 @@ use Rattle.clauses.specs.declared.Listed.{Listed}
 use Rattle.clauses.specs.Check.{refused_listed}
 use Rattle.cases.specs.Case.{Case, Case.material, Case.no_material, Case.tests, Case.force, Case.turned_force, Case.force_beyond, Case.resists}
 use Rattle.cases.specs.Case.{Case.turned_steel, Case.size_factor, Case.shear_numbers, Case.link_tested, Case.written, Case.read, Case.read_layers, Case.struts}
-use Rattle.cases.specs.Case.{DepthRow, CheckRow, with_links}
+use Rattle.cases.specs.Case.{DepthRow, CheckRow, LayerRow, with_links}
 
 -- the situation, αcc, fck and fyk
 abbrev grade_with : ℤ → ℤ → ℕ → ℕ → Grade
@@ -118,6 +119,10 @@ accidental_reduced_a = AWith (pos 2) (pos 85) 500 1
 abbrev load : ℤ → ℤ → ℤ → Load
 load n m v = record { n = n; m = m; v = v }
 
+-- M 200,000,000 and V 80,000, under which the example of 01's list stands
+abbrev load_a : Load
+load_a = load (pos 0) (pos 200000000) (pos 80000)
+
 -- 50 by 50, fck 25, fyk 400, one layer of 1,500 at 1
 abbrev B : Section
 B = one_in (grade 25 400) 1 50 50 1
@@ -192,6 +197,10 @@ eight k = 0 ∷ 0 ∷ 0 ∷ 0 ∷ 0 ∷ 0 ∷ 0 ∷ k ∷ []
 abbrev line : Face → Face → ℕ → ℕ → ℕ → ℕ → ℕ → ℕ → ℕ → ℕ → Listed
 line f o vrd dm area v1 v2 v3 v4 v5 = linked_line f o vrd dm area 0 0 (v1 ∷ v2 ∷ v3 ∷ v4 ∷ v5 ∷ 2 ∷ [])
 
+-- what that example prints of A
+abbrev line_a : Listed
+line_a = line (face 1358 (pos 257986051)) (face 419 (pos 6312569)) 86851 450 1500 0 0 0 0 0
+
 -- A with links under M 200,000,000: both faces, the cotangent, the resistance and verdicts three and six
 abbrev strut_line_at : Face → Face → ℕ → ℕ → ℕ → ℕ → Listed
 strut_line_at f o cotangent resistance v3 v6 = linked_line f o 86851 450 1500 cotangent resistance (0 ∷ 0 ∷ v3 ∷ 0 ∷ 0 ∷ v6 ∷ [])
@@ -208,6 +217,9 @@ finds s n refusal u trials = record { section = s; n = n; refusal = refusal; u =
 
 abbrev checks : Section → Load → Listed → CheckRow
 checks s l lists = record { section = s; load = l; lists = lists }
+
+abbrev tries_layer : Section → Load → ℕ → Layer → Listed → LayerRow
+tries_layer s l place layer lists = record { section = s; load = l; place = place; layer = layer; lists = lists }
 
 -- A's links under V
 abbrev sheared : ℕ → ℕ → ℤ → Listed → CheckRow
@@ -280,8 +292,8 @@ cases =
     ∷ struts tie 23 192327 198086
     ∷ struts tie 24 200689 192327
     -- the example's record, and request 3: the same with links, area before spacing, between V and the layer
-    ∷ written A (load (pos 0) (pos 200000000) (pos 80000)) (record_a 0 [])
-    ∷ written (with_links (links_with 101 200) A) (load (pos 0) (pos 200000000) (pos 80000)) (
+    ∷ written A load_a (record_a 0 [])
+    ∷ written (with_links (links_with 101 200) A) load_a (
     0 ∷ 0 ∷ 1 ∷ 239
     ∷ 0 ∷ 0 ∷ 0 ∷ 0 ∷ 0 ∷ 0 ∷ 1 ∷ 44
     ∷ 0 ∷ 0 ∷ 0 ∷ 0 ∷ 0 ∷ 0 ∷ 1 ∷ 244
@@ -327,7 +339,7 @@ cases =
     ∷ tests (AWith (pos 3) (pos 100) 500 0) 32
     ∷ tests (AWith (pos 2) (pos 100) 500 0) 5
     -- request 8: the situation stands after the layer (that a 1 is not written is shown by the example's record above)
-    ∷ written accidental_a (load (pos 0) (pos 200000000) (pos 80000)) (record_a 1 (eight 2))
+    ∷ written accidental_a load_a (record_a 1 (eight 2))
     -- request 8: a missing value means 1, a present 1 is read too; 32 and zeros
     ∷ read (record_a 0 []) 0 60 (pos 1) (pos 100)
     ∷ read (record_a 1 (eight 1)) 0 68 (pos 1) (pos 100)
@@ -358,8 +370,8 @@ cases =
     ∷ tests (AWith (pos 1) (pos 101) 500 0) 34
     ∷ tests (AWith (pos 1) (pos 85) 500 0) 5
     -- request 10: αcc stands last, after the layer and the situation (that a 100 is not written is shown by the example's record above)
-    ∷ written reduced_a (load (pos 0) (pos 200000000) (pos 80000)) (record_a 2 (eight 85))
-    ∷ written accidental_reduced_a (load (pos 0) (pos 200000000) (pos 80000)) (record_a 3 (eight 2 ++ eight 85))
+    ∷ written reduced_a load_a (record_a 2 (eight 85))
+    ∷ written accidental_reduced_a load_a (record_a 3 (eight 2 ++ eight 85))
     -- request 10: missing means 100 (above), a present 100 is read too; 34 and zeros; bit 26
     ∷ read (record_a 2 (eight 100)) 0 68 (pos 1) (pos 100)
     ∷ read (record_a 2 (eight 85)) 0 68 (pos 1) (pos 85)
@@ -367,8 +379,8 @@ cases =
     ∷ read (record_a 2 (eight 79)) 34 68 (pos 0) (pos 0)
     ∷ read (record_a 4 (eight 85)) 21 0 (pos 0) (pos 0)
     -- request 6: 50/600 and 450/1,500 are written in one sequence, whichever comes first; equal depths by area
-    ∷ written (two (bars 50 600) (bars 450 1500)) (load (pos 0) (pos 200000000) (pos 80000)) (record_two (pair 50 600) (pair 450 1500))
-    ∷ written (two (bars 450 1500) (bars 50 600)) (load (pos 0) (pos 200000000) (pos 80000)) (record_two (pair 50 600) (pair 450 1500))
+    ∷ written (two (bars 50 600) (bars 450 1500)) load_a (record_two (pair 50 600) (pair 450 1500))
+    ∷ written (two (bars 450 1500) (bars 50 600)) load_a (record_two (pair 50 600) (pair 450 1500))
     ∷ written (two (bars 450 750) (bars 450 749)) (load (pos 0) (pos 0) (pos 0)) (unloaded (pair 450 749) (pair 450 750))
     -- request 6: whole numbers are compared and not their bytes; three layers
     ∷ written (two (bars 256 512) (bars 255 513)) (load (pos 0) (pos 0) (pos 0)) (unloaded (pair 255 513) (pair 256 512))
@@ -486,7 +498,7 @@ check_rows =
     ∷ checks A (load (pos 2505000) (pos 0) (pos 0)) (line (face 5000 (pos 99000000)) (face 3860 (pos 307561680)) 0 0 0 0 2 2 2 0)
     ∷ checks A (load (pos 2505001) (pos 0) (pos 0)) (line (face 5001 (pos 98894393)) (face 3860 (pos 307561680)) 0 0 0 0 2 2 2 0)
     -- the example of the list
-    ∷ checks A (load (pos 0) (pos 200000000) (pos 80000)) (line (face 1358 (pos 257986051)) (face 419 (pos 6312569)) 86851 450 1500 0 0 0 0 0)
+    ∷ checks A load_a line_a
     -- request 1: the hanger passes from 130,314,020 to 130,553,980, and not with no moment
     ∷ checks A (load (neg_ℤ (pos 651690)) (pos 130314020) (pos 0)) (hanger 0)
     ∷ checks A (load (neg_ℤ (pos 651690)) (pos 130553980) (pos 0)) (hanger 0)
@@ -525,7 +537,7 @@ check_rows =
     (linked_line (face 646 (pos 278503091)) (face 345 (pos 12653841)) 125256 450 1500 13 1352850 (0 ∷ 0 ∷ 1 ∷ 0 ∷ 0 ∷ 0 ∷ []))
     -- request 3: any number but 0 is present; absent links have no numbers
     ∷ checks (with_links (record { present = 7; area = 101; spacing = 200 }) A) (load (pos 0) (pos 200000000) (pos 222308)) (strut_line 25 222308 1 0)
-    ∷ checks (with_links (record { present = 0; area = 101; spacing = 200 }) A) (load (pos 0) (pos 200000000) (pos 80000)) (strut_line 0 0 0 2)
+    ∷ checks (with_links (record { present = 0; area = 101; spacing = 200 }) A) load_a (strut_line 0 0 0 2)
     -- request 3: 27, 28 and 29, and 29 before 11 and 12
     ∷ sheared 0 200 (pos 0) (refused_listed 27)
     ∷ sheared 101 24 (pos 0) (refused_listed 28)
@@ -533,12 +545,12 @@ check_rows =
     ∷ checks (with_links (links_with 101 200) A) (load (neg_ℤ (pos 651691)) (pos 0) (pos 0)) (refused_listed 29)
     ∷ checks (with_links (links_with 101 200) A) (load (pos 2505001) (pos 0) (pos 0)) (refused_listed 29)
     -- request 8: the example of the list in the accidental situation, and the other face compressed
-    ∷ checks accidental_a (load (pos 0) (pos 200000000) (pos 80000)) (line (face 1250 (pos 300000000)) (face 405 (pos 7554140)) 108564 450 1500 0 0 0 0 0)
+    ∷ checks accidental_a load_a (line (face 1250 (pos 300000000)) (face 405 (pos 7554140)) 108564 450 1500 0 0 0 0 0)
     ∷ checks accidental_a (load (pos 0) (neg_ℤ (pos 1)) (pos 0)) (line (face 405 (pos 7554140)) (face 1250 (pos 300000000)) 17613 50 1500 0 1 0 0 0)
     -- request 8: 32 before 5 and before 8
     ∷ checks (AWith (pos 3) (pos 100) 500 0) (load (pos 500000001) (pos 0) (pos 0)) (refused_listed 32)
     -- request 10: the example of the list with αcc 0.85, M at the resistance and beyond, and the other face compressed
-    ∷ checks reduced_a (load (pos 0) (pos 200000000) (pos 80000)) (line (face 1598 (pos 251755182)) (face 428 (pos 5339334)) 86851 450 1500 0 0 0 0 0)
+    ∷ checks reduced_a load_a (line (face 1598 (pos 251755182)) (face 428 (pos 5339334)) 86851 450 1500 0 0 0 0 0)
     ∷ checks reduced_a (load (pos 0) (pos 251755182) (pos 0)) (line (face 1598 (pos 251755182)) (face 428 (pos 5339334)) 86851 450 1500 0 0 0 0 0)
     ∷ checks reduced_a (load (pos 0) (pos 251755183) (pos 0)) (line (face 1598 (pos 251755182)) (face 428 (pos 5339334)) 86851 450 1500 1 0 0 0 0)
     ∷ checks reduced_a (load (pos 0) (neg_ℤ (pos 1)) (pos 0)) (line (face 428 (pos 5339334)) (face 1598 (pos 251755182)) 14090 50 1500 0 1 0 0 0)
@@ -548,9 +560,9 @@ check_rows =
     -- request 10: the strut, which has g, where αcc 1.00 gives 641,520; and links that govern
     ∷ checks (with_links (links_with 500 50) reduced_a) (load (pos 0) (pos 200000000) (pos 545292)) (reduced_strut_line 10 545292 1 0)
     ∷ checks (with_links (links_with 500 50) reduced_a) (load (pos 0) (pos 200000000) (pos 545293)) (reduced_strut_line 10 545292 1 1)
-    ∷ checks (with_links (links_with 101 200) reduced_a) (load (pos 0) (pos 200000000) (pos 80000)) (reduced_strut_line 25 222308 0 0)
+    ∷ checks (with_links (links_with 101 200) reduced_a) load_a (reduced_strut_line 25 222308 0 0)
     -- request 10: in the accidental situation
-    ∷ checks accidental_reduced_a (load (pos 0) (pos 200000000) (pos 80000))
+    ∷ checks accidental_reduced_a load_a
     (line (face 1470 (pos 293342640)) (face 415 (pos 6387061)) 108564 450 1500 0 0 0 0 0)
     -- request 10: 34 before 5 and before 8
     ∷ checks (AWith (pos 1) (pos 79) 500 0) (load (pos 500000001) (pos 0) (pos 0)) (refused_listed 34)
@@ -571,10 +583,78 @@ check_rows =
     ∷ checks A (load (pos 3441001) (neg_ℤ (pos 1)) (pos 0)) (refused_listed 12)
     ∷ checks over_a (load (pos 3441001) (pos 0) (pos 0)) (refused_listed 12)
     -- request 2: the same bars in three sequences, with links
-    ∷ checks (with_links (links_with 101 200) from_top) (load (pos 0) (pos 200000000) (pos 80000)) bars_line
-    ∷ checks (with_links (links_with 101 200) from_bottom) (load (pos 0) (pos 200000000) (pos 80000)) bars_line
-    ∷ checks (with_links (links_with 101 200) from_middle) (load (pos 0) (pos 200000000) (pos 80000)) bars_line
+    ∷ checks (with_links (links_with 101 200) from_top) load_a bars_line
+    ∷ checks (with_links (links_with 101 200) from_bottom) load_a bars_line
+    ∷ checks (with_links (links_with 101 200) from_middle) load_a bars_line
     -- request 2: the bottom compressed and all layers in tension
     ∷ checks from_top (load (neg_ℤ (pos 500000)) (neg_ℤ (pos 20000000)) (pos 80000)) tension_line
     ∷ checks from_bottom (load (neg_ℤ (pos 500000)) (neg_ℤ (pos 20000000)) (pos 80000)) tension_line
+    ∷ []
+
+-- 300 wide, with sixteen layers of 200, 10 mm apart from 450 upward, of which so many are counted; and so high as A
+abbrev sixteen_in : ℕ → ℕ → Section
+sixteen_in h count =
+    layered (grade 30 500) 300 h count
+    (bars 450 200 ∷ bars 440 200 ∷ bars 430 200 ∷ bars 420 200 ∷ bars 410 200 ∷ bars 400 200 ∷ bars 390 200 ∷ bars 380 200
+    ∷ bars 370 200 ∷ bars 360 200 ∷ bars 350 200 ∷ bars 340 200 ∷ bars 330 200 ∷ bars 320 200 ∷ bars 310 200 ∷ bars 300 200 ∷ [])
+
+abbrev sixteen : ℕ → Section
+sixteen = sixteen_in 500
+
+-- what is listed of the sixteen with the last one at 40, of 300
+abbrev sixteen_line : Listed
+sixteen_line = line (face 2233 (pos 361644195)) (face 997 (pos 116815993)) 92362 380 3000 0 1 0 0 0
+
+-- A's steel under M 257,986,051, its resistance, by verdict one
+abbrev at_resistance : ℕ → Listed → LayerRow
+at_resistance area lists = tries_layer A (load (pos 0) (pos 257986051) (pos 80000)) 0 (bars 450 area) lists
+
+-- the rows of Try a layer: a section, a load, a place from 0 and a layer
+unfoldable pub layer_rows : List LayerRow
+layer_rows =
+    -- the example of 01's list: from another depth, from another area, as the first layer of all, and from a section that 6 or 7 refuses
+    tries_layer (one 300 500 30 400) load_a 0 (bars 450 1500) line_a
+    ∷ tries_layer (layered (grade 30 500) 300 500 1 (bars 450 1 ∷ replicate 15 no_layer)) load_a 0 (bars 450 1500) line_a
+    ∷ tries_layer (one_in (grade 30 500) 0 300 500 400) load_a 0 (bars 450 1500) line_a
+    ∷ tries_layer (one 300 500 30 500) load_a 0 (bars 450 1500) line_a
+    ∷ tries_layer (layered (grade 30 500) 300 500 1 (bars 450 20001 ∷ replicate 15 no_layer)) load_a 0 (bars 450 1500) line_a
+    -- its layer dragged, and the area by one mm² about the one that M needs
+    ∷ tries_layer A load_a 0 (bars 400 1500) (line (face 1358 (pos 225377551)) (face 745 (pos 24834124)) 82271 400 1500 0 0 0 0 0)
+    ∷ tries_layer A load_a 0 (bars 499 1500) (line (face 1358 (pos 289942381)) (face 9 (neg_ℤ (pos 27971556))) 91203 499 1500 0 0 0 0 0)
+    ∷ at_resistance 1499 (line (face 1357 (pos 257831223)) (face 419 (pos 6339633)) 86824 450 1499 1 0 0 0 0)
+    ∷ at_resistance 1500 line_a
+    ∷ at_resistance 20000 (line (face 3961 (pos 555096091)) (face 491 (pos 2967415)) 105635 450 20000 0 1 0 0 1)
+    -- by one mm, where the links are at the greatest spacing
+    ∷ tries_layer (with_links (links_with 101 337) A) load_a 0 (bars 449 1500)
+    (linked_line (face 1358 (pos 257333881)) (face 426 (pos 6434251)) 86764 449 1500 25 131640 (0 ∷ 0 ∷ 0 ∷ 0 ∷ 0 ∷ 1 ∷ []))
+    -- a layer is added, for either sign of M
+    ∷ tries_layer A load_a 1 (bars 50 500) (line (face 995 (pos 265649640)) (face 491 (pos 93919956)) 86851 450 1500 0 0 0 0 0)
+    ∷ tries_layer A (load (pos 0) (neg_ℤ (pos 1)) (pos 0)) 1 (bars 50 500) (line (face 491 (pos 93919956)) (face 995 (pos 265649640)) 42271 150 2000 0 0 0 0 0)
+    -- where the section has links, and in the accidental situation with αcc 0.85
+    ∷ tries_layer (with_links (links_with 101 200) A) load_a 1 (bars 50 500)
+    (linked_line (face 995 (pos 265649640)) (face 491 (pos 93919956)) 86851 450 1500 25 222308 (0 ∷ 0 ∷ 0 ∷ 0 ∷ 0 ∷ 0 ∷ []))
+    ∷ tries_layer accidental_reduced_a load_a 1 (bars 50 500)
+    (line (face 1097 (pos 303412760)) (face 498 (pos 107592344)) 108564 450 1500 0 0 0 0 0)
+    -- a layer between others, and one added beyond 10h
+    ∷ tries_layer column (load (pos 1000000) (pos 20000000) (pos 20000)) 1 (bars 200 402)
+    (line (face 1866 (pos 110749047)) (face 1702 (pos 120643893)) 98205 230 1030 0 1 0 0 0)
+    ∷ tries_layer column (load (pos 2300000) (pos 10000000) (pos 20000)) 3 (bars 150 402) (line (face 3418 (pos 38571737)) (face 3418 (pos 38571737)) 0 0 0 0 2 2 2 0)
+    -- 33, before 1 and whatever the layer
+    ∷ tries_layer A load_a 2 (bars 50 500) (refused_listed 33)
+    ∷ tries_layer (one 49 500 30 450) load_a 2 (bars 0 0) (refused_listed 33)
+    ∷ tries_layer (one 49 500 30 450) load_a 1 (bars 0 0) (refused_listed 1)
+    -- 6 and 7 of the layer that is tried
+    ∷ tries_layer A load_a 0 (bars 500 1500) (refused_listed 6)
+    ∷ tries_layer A load_a 1 (bars 0 1500) (refused_listed 6)
+    ∷ tries_layer A load_a 0 (bars 450 20001) (refused_listed 7)
+    -- sixteen: the last one replaced, or added; one more is refused by 5, after 2, and two more by 33
+    ∷ tries_layer (sixteen 16) load_a 15 (bars 40 300) sixteen_line
+    ∷ tries_layer (sixteen 15) load_a 15 (bars 40 300) sixteen_line
+    ∷ tries_layer (sixteen 16) load_a 16 (bars 40 300) (refused_listed 5)
+    ∷ tries_layer (sixteen_in 49 16) load_a 16 (bars 40 300) (refused_listed 2)
+    ∷ tries_layer (sixteen 16) load_a 17 (bars 40 300) (refused_listed 33)
+    -- a number that no section has
+    ∷ tries_layer (sixteen 17) load_a 16 (bars 40 300) (refused_listed 5)
+    ∷ tries_layer (sixteen (2 ^ 64 - 1)) load_a 0 (bars 40 300) (refused_listed 5)
+    ∷ tries_layer (sixteen (2 ^ 64 - 1)) load_a (2 ^ 64 - 1) (bars 40 300) (refused_listed 5)
     ∷ []

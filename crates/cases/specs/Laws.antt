@@ -1,13 +1,18 @@
 -- What the documents say of the definitions and no contract says: each a law, in full. A law that is taken away or weakened in its crate
 -- fails here. Assumes nothing.
-use Rattle.std.specs.Prelude.{ℕ, suc, ◌+◌, ◌*◌, ◌^◌, ◌≤◌, ◌<◌, true, false, not, ◌↔◌, ◌≡◌, refl, ℤ, neg_ℤ, ◌<ℤ◌, length, Ok}
-use mathlib.Core.List.{List, [], ◌++◌, reverse, reverse_perm}
+use Rattle.std.specs.Prelude.{ℕ, suc, ◌+◌, ◌*◌, ◌^◌, ◌≤◌, ◌<◌, true, false, not, ◌↔◌, ◌≡◌, refl, ℤ, pos, neg_ℤ, ◌<ℤ◌}
+use Rattle.std.specs.Prelude.{length, get_or, set, Some, Ok, Err}
+use mathlib.Core.List.{List, [], ◌∷◌, ◌++◌, reverse, reverse_perm}
+use Rattle.std.specs.Result.{result_err}
+use Rattle.arith.specs.Integer.{in_range}
 use Rattle.arith.specs.Fraction.{Ratio, Same, integer, ◌<ᶠ◌}
 use Rattle.arith.specs.Greatest.{IsGreatest, IsLeast}
 use Rattle.arith.specs.Halving.{halved, kept_up_to}
 use Rattle.arith.specs.Rearranged.{Rearranged, times}
-use Rattle.refusals.specs.declared.Refusal.TheVariants.{LayerSequence}
+use Rattle.refusals.specs.declared.Refusal.TheVariants.{Width, Height, LayerCount, LayerSequence, LayerPlace}
+use Rattle.refusals.specs.Chain.{test, first_failing}
 use Rattle.refusals.specs.Number.{number_of}
+use Rattle.materials.specs.Answer.{materials_of}
 use Rattle.section.specs.declared.Layer.{Layer}
 use Rattle.section.specs.declared.Links.{Links}
 use Rattle.section.specs.declared.Section.{Section}
@@ -50,6 +55,8 @@ use Rattle.clauses.specs.Check.{check_of, OfReport}
 use Rattle.clauses.specs.Unreached.{Unreached}
 use Rattle.clauses.proofs.Laws as clauses
 use Rattle.clauses.proofs.Rearranged as clauses_sequence
+use Rattle.clauses.specs.Trial.{trial_of}
+use Rattle.clauses.proofs.Trial as trials
 use Rattle.sequence.specs.Order.{ordered, sorted}
 use Rattle.sequence.proofs.Order as sequences
 use Rattle.record.specs.Map.{record_length}
@@ -77,6 +84,10 @@ beyond_moment = equilibrium.beyond_moment
 
 pub beyond_check : (s t : Section) (load : Load) → counted s ≡ counted t → links_of s ≡ links_of t → check_of s load ≡ check_of t load
 beyond_check = clauses.beyond_check
+
+pub beyond_trial : (s t : Section) (load : Load) (place : ℕ) (l : Layer) → counted s ≡ counted t → links_of s ≡ links_of t
+    → trial_of s load place l ≡ trial_of t load place l
+beyond_trial = trials.beyond_trial
 
 pub beyond_written : (s t : Section) (load : Load) (buf : List ℕ) → counted s ≡ counted t → links_of s ≡ links_of t
     → written_of (counted s) (links_of s) load buf ≡ written_of (counted t) (links_of t) load buf
@@ -242,6 +253,46 @@ read_ordered = readings.read_ordered
 -- of both, by the laws of ticket 2
 pub written_same : (s : Section) → s.count ≤ length s.layers → SameBars (counted s) (counted (cleared s)) × (links_of (cleared s) ≡ links_of s)
 written_same s h = (records.written_same s h, counted_twice s.links)
+
+-- ---- "Try a bar before placing it": 02's ticket 9
+
+-- a section with this layer written at a place, and this number of layers
+abbrev copy : Section → ℕ → Layer → ℕ → Section
+copy s place l count =
+    record {
+      layers = set s.layers place l;
+      width = s.width;
+      height = s.height;
+      grade = s.grade;
+      links = s.links;
+      count = count;
+    }
+
+-- "Its answer is the one that Check gives for a copy so altered, refusals included": a layer is replaced
+pub trial_replaced : (s : Section) (load : Load) (place : ℕ) (l : Layer) → place < s.count
+    → trial_of s load place l ≡ check_of (copy s place l s.count) load
+trial_replaced = trials.trial_replaced
+
+-- or one is added, where the section has a place for it
+pub trial_added : (s : Section) (load : Load) (l : Layer) → s.count < length s.layers
+    → trial_of s load s.count l ≡ check_of (copy s s.count l (s.count + 1)) load
+trial_added = trials.trial_added
+
+-- "with sixteen layers meets refusal 5 at its place in Check's sequence": b, h, fck, fyk, situation and αcc come before it
+pub trial_full : (s : Section) (load : Load) (place : ℕ) (l : Layer) → place ≡ s.count → 16 ≤ s.count
+    → result_err (trial_of s load place l)
+    ≡ first_failing (test Width (in_range (pos 50) (pos 2000) s.width) ∷ test Height (in_range (pos 50) (pos 2000) s.height)
+    ∷ result_err (materials_of s.grade) ∷ Some LayerCount ∷ [])
+trial_full = trials.trial_full
+
+-- "33 place beyond the number of layers, tested first"
+pub trial_place_beyond : (s : Section) (load : Load) (place : ℕ) (l : Layer) → s.count < place → trial_of s load place l ≡ Err LayerPlace
+trial_place_beyond = trials.trial_place_beyond
+
+-- the layer that stands there is no alteration
+pub trial_same : (s : Section) (load : Load) (place : ℕ) (d : Layer) → place < s.count
+    → trial_of s load place (get_or (layers_of s) place d) ≡ check_of s load
+trial_same = trials.trial_same
 
 -- ---- records and their list
 

@@ -19,7 +19,7 @@ use Rattle.section.specs.declared.Section.{Section}
 use Rattle.section.specs.declared.Links.{Links}
 use Rattle.section.specs.declared.Load.{Load}
 use Rattle.section.specs.declared.Design.{Design}
-use Rattle.section.specs.Section.{layers_of, counted, links_of}
+use Rattle.section.specs.Section.{layers_of, Counted, counted, links_of}
 use Rattle.section.specs.Refusals.{accepted, load_link_tests, answer}
 use Rattle.equilibrium.specs.Refusals.{carries, reaches}
 use Rattle.section.specs.Turned.{turned}
@@ -155,46 +155,51 @@ module _ (x : Design) (k : Links) (load : Load) (top bottom : List Layer) (t b :
   unfolding report_at report_of
   best_is = record { best = linked_best x k load.v report.area report.dm; least = linked-least x k load.v report.area report.dm }
 
-module _ (s : Section) (load : Load) where
+-- ---- Check of a section as it is read
+
+module _ (c : Counted) (k : Links) (load : Load) where
   abbrev tests : List (Option Refusal)
-  tests = load_link_tests (links_of s) load
+  tests = load_link_tests k load
 
   abbrev found : Design → Report
-  found x = reported (layers_of s) (turned x.h (layers_of s)) (links_of s) load x
+  found x = reported c.layers (turned x.h c.layers) k load x
 
   abbrev under-load : Result Design Refusal → List (Option Refusal)
-  under-load a = tests ++ faces_tests_of a (layers_of s) load
+  under-load a = tests ++ faces_tests_of a c.layers load
 
-  pub check_refused : {r : Refusal} → accepted (counted s) ≡ Err r → Err r ≡ check_of s load
+  pub check_refused : {r : Refusal} → accepted c ≡ Err r → Err r ≡ check_in c k load
   unfolding check_in
-  check_refused e = sym (call_refused found s under-load e)
+  check_refused e = sym (call_refused found c under-load e)
 
   -- of an accepted section the tests of load and links come next, and then those of the faces
-  check_ready : {x : Design} → accepted (counted s) ≡ Ok x
-      → check_of s load ≡ answer found
-      (option_or (first_failing tests) (first_failing (faces_tests x (layers_of s) (turned x.h (layers_of s)) load))) (Ok x)
+  check_ready : {x : Design} → accepted c ≡ Ok x
+      → check_in c k load ≡ answer found
+      (option_or (first_failing tests) (first_failing (faces_tests x c.layers (turned x.h c.layers) load))) (Ok x)
   unfolding check_in
   check_ready {x} e =
-      call_ready found s under-load e
-      ∙ ap (λ (k : Option Refusal). answer found k (Ok x)) (first_of tests (faces_tests x (layers_of s) (turned x.h (layers_of s)) load))
+      call_ready found c under-load e
+      ∙ ap (λ (o : Option Refusal). answer found o (Ok x)) (first_of tests (faces_tests x c.layers (turned x.h c.layers) load))
 
-  pub load_refused : {x : Design} {r : Refusal} → accepted (counted s) ≡ Ok x → Some r ≡ first_failing tests → Err r ≡ check_of s load
+  pub load_refused : {x : Design} {r : Refusal} → accepted c ≡ Ok x → Some r ≡ first_failing tests → Err r ≡ check_in c k load
   load_refused e is = sym (check_ready e ∙ rw (sym is))
 
-  pub load_passed : {x : Design} → accepted (counted s) ≡ Ok x → first_failing tests ≡ None
-      → check_faces x (layers_of s) (turned x.h (layers_of s)) (links_of s) load ≡ check_of s load
+  pub load_passed : {x : Design} → accepted c ≡ Ok x → first_failing tests ≡ None
+      → check_faces x c.layers (turned x.h c.layers) k load ≡ check_in c k load
   unfolding check_faces
-  load_passed {x} e none = sym (check_ready e ∙ rw none (of_faces (first_failing (faces_tests x (layers_of s) (turned x.h (layers_of s)) load))))
+  load_passed {x} e none = sym (check_ready e ∙ rw none (of_faces (first_failing (faces_tests x c.layers (turned x.h c.layers) load))))
     where
-      of_faces : (k : Option Refusal) → answer found k (Ok x) ≡ answer (reported (layers_of s) (turned x.h (layers_of s)) (links_of s) load) k (Ok x)
+      of_faces : (o : Option Refusal) → answer found o (Ok x) ≡ answer (reported c.layers (turned x.h c.layers) k load) o (Ok x)
       of_faces None = refl
       of_faces (Some r) = refl
 
-  check_refusal : result_err (check_of s load) ≡ first_failing (check_tests (counted s) (links_of s) load)
+  pub check_refusal : result_err (check_in c k load) ≡ first_failing (check_tests c k load)
   unfolding check_in
-  check_refusal = call_refusal found s under-load
+  check_refusal = call_refusal found c under-load
 
-  -- ---- what holds of every report, each face at a depth that keeps its promise, holds of Check's
+-- ---- Check of a section in hand
+
+module _ (s : Section) (load : Load) where
+  -- what holds of every report, each face at a depth that keeps its promise, holds of Check's
 
   -- an accepted section and links that passed their tests, at the depth of each face
   pub record Under (x : Design) (t b : ℕ) : Type 0 where
@@ -208,19 +213,20 @@ module _ (s : Section) (load : Load) where
 
   module _ (P : Design → Report → Type 0)
       (each : (x : Design) (t b : ℕ) → Under x t b → P x (report_with x t b)) where
-    report-under : {x : Design} (k : Option Refusal) → k ≡ first_failing tests → accepted (counted s) ≡ Ok x → OfReport P (Ok x) (check_of s load)
+    report-under : {x : Design} (k : Option Refusal) → k ≡ first_failing (load_link_tests (links_of s) load) → accepted (counted s) ≡ Ok x
+        → OfReport P (Ok x) (check_of s load)
     report-under {x} None none e =
         let ls = layers_of s in
         let w = usable_by s e in
         let linked = (load-links-ok (links_of s) load (sym none)).links in
-        rw (← load_passed e (sym none))
+        rw (← load_passed (counted s) (links_of s) load e (sym none))
         (faces_cases ls (links_of s) load w (OfReport P (Ok x)) tt tt
         (λ t b p q. each x t b (record { usable = w; links = linked; top = p; bottom = q })))
-    report-under (Some r) some e = rw (← load_refused e some) tt
+    report-under (Some r) some e = rw (← load_refused (counted s) (links_of s) load e some) tt
 
     report_for : (a : Result Design Refusal) → accepted (counted s) ≡ a → OfReport P a (check_of s load)
-    report_for (Err j) e = rw (← check_refused e) tt
-    report_for (Ok x) e = report-under (first_failing tests) refl e
+    report_for (Err j) e = rw (← check_refused (counted s) (links_of s) load e) tt
+    report_for (Ok x) e = report-under (first_failing (load_link_tests (links_of s) load)) refl e
 
     pub of_report : OfReport P (accepted (counted s)) (check_of s load)
     of_report = report_for (accepted (counted s)) refl
@@ -238,15 +244,15 @@ module _ (s : Section) (load : Load) where
         taken = moment_is x (links_of s) load ls (turned x.h ls) t b ∙ (λ i. first load.m (sym top i).mrd (sym bottom i).mrd);
       }
 
-  pub check_accurate : AccurateCheck s load (check_of s load)
+  pub check_accurate : AccurateCheck (counted s) load (check_of s load)
   check_accurate = of_report (λ x. AccurateFaces x (layers_of s) load) accurate_report
 
   -- the links' cotangent: of every report
-  pub check_best : BestLinks s (check_of s load)
+  pub check_best : BestLinks (counted s) (links_of s) (check_of s load)
   check_best = of_report (BestAnswer (links_of s)) (λ x t b w. best_is x (links_of s) load (layers_of s) (turned x.h (layers_of s)) t b)
 
   -- the other clauses of `check_section` follow from its first
   pub check_clauses : {r : Result Report Refusal} → r ≡ check_of s load
       → (r ≡ check_of s load)
-      × ((result_err r ≡ first_failing (check_tests (counted s) (links_of s) load)) × (AccurateCheck s load r × BestLinks s r))
-  check_clauses e = (e, (rw e check_refusal, (rw e check_accurate, rw e check_best)))
+      × ((result_err r ≡ first_failing (check_tests (counted s) (links_of s) load)) × (AccurateCheck (counted s) load r × BestLinks (counted s) (links_of s) r))
+  check_clauses e = (e, (rw e (check_refusal (counted s) (links_of s) load), (rw e check_accurate, rw e check_best)))

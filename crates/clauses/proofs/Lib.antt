@@ -1,3 +1,4 @@
 pub mod Checking
 pub mod Laws
 pub mod Rearranged
+pub mod Trial

@@ -4,10 +4,9 @@ use Rattle.std.specs.Prelude.{◌*◌, ◌≤◌, cond, List, ◌≡◌, ℤ, po
 use Rattle.std.specs.Int.Signed.{le_z}
 use Rattle.refusals.specs.declared.Refusal.{Refusal}
 use Rattle.section.specs.declared.Layer.{Layer}
-use Rattle.section.specs.declared.Section.{Section}
 use Rattle.section.specs.declared.Load.{Load}
 use Rattle.section.specs.declared.Design.{Design}
-use Rattle.section.specs.Section.{counted}
+use Rattle.section.specs.Section.{Counted}
 use Rattle.section.specs.Refusals.{accepted}
 use Rattle.section.specs.Turned.{turned}
 use Rattle.equilibrium.specs.Accuracy.{Accurate}
@@ -38,5 +37,5 @@ pub record AccurateFaces (x : Design) (ls : List Layer) (load : Load) (r : Repor
   pub taken : r.moment ≡ first load.m (top_of load.m r).mrd (bottom_of load.m r).mrd
 
 -- of Check
-abbrev pub AccurateCheck : Section → Load → Result Report Refusal → Type 0
-AccurateCheck s load r = OfReport (λ x. AccurateFaces x (counted s).layers load) (accepted (counted s)) r
+abbrev pub AccurateCheck : Counted → Load → Result Report Refusal → Type 0
+AccurateCheck c load r = OfReport (λ x. AccurateFaces x c.layers load) (accepted c) r

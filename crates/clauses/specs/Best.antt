@@ -3,9 +3,8 @@
 use Rattle.std.specs.Prelude.{true, ◌≡◌, Result}
 use Rattle.refusals.specs.declared.Refusal.{Refusal}
 use Rattle.section.specs.declared.Links.{Links}
-use Rattle.section.specs.declared.Section.{Section}
 use Rattle.section.specs.declared.Design.{Design}
-use Rattle.section.specs.Section.{counted, links_of}
+use Rattle.section.specs.Section.{Counted}
 use Rattle.section.specs.Refusals.{accepted}
 use Rattle.links.specs.Links.{lesser, BestCotangent}
 use Rattle.clauses.specs.declared.Report.{Report}
@@ -18,5 +17,5 @@ pub record BestAnswer (k : Links) (x : Design) (r : Report) : Type 0 where
   pub best : reaches_links k r.area ≡ true → BestCotangent (truss_of x k r.dm) r.cotangent
   pub least : reaches_links k r.area ≡ true → r.resistance ≡ lesser (truss_of x k r.dm) r.cotangent
 
-abbrev pub BestLinks : Section → Result Report Refusal → Type 0
-BestLinks s r = OfReport (BestAnswer (links_of s)) (accepted (counted s)) r
+abbrev pub BestLinks : Counted → Links → Result Report Refusal → Type 0
+BestLinks c k r = OfReport (BestAnswer k) (accepted c) r

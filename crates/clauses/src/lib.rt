@@ -1,4 +1,4 @@
-// What the clauses of EN 1992-1-1 say of a section and its load: document 01, "Verdicts", and 02's tickets 1, 3 and 11.
+// What the clauses of EN 1992-1-1 say of a section and its load: document 01, "Verdicts", and 02's tickets 1, 3, 9 and 11.
 
 #![tactic(auto)]
 
@@ -10,15 +10,17 @@ ghost use Rattle.std.specs.Prelude.{◌≡◌};
 ghost use Rattle.std.specs.Result.{result_err};
 ghost use Rattle.refusals.specs.Chain.{first_failing};
 ghost use Rattle.section.specs.Section.{counted, links_of};
-ghost use Rattle.clauses.specs.Refusals.{check_tests};
+ghost use Rattle.section.specs.Altered.{altered};
+ghost use Rattle.clauses.specs.Refusals.{check_tests, trial_tests};
 ghost use Rattle.clauses.specs.Check.{check_of};
+ghost use Rattle.clauses.specs.Trial.{trial_of};
 ghost use Rattle.clauses.specs.Accuracy.{AccurateCheck};
 ghost use Rattle.clauses.specs.Best.{BestLinks};
 
 use check::Checking;
 use refusals::Refusal;
 use section::acceptance::{accept, counted_links, test_load_and_links};
-use section::{Load, Section};
+use section::{Layer, Load, Section};
 use verdicts::Verdict;
 
 // A face under N: the depth of the neutral axis in tenths of a millimetre from that face, up to 10h or beyond it, and MRd in N·mm with it
@@ -84,8 +86,8 @@ pub struct Listed {
 pub fn check_section(s: Section, l: Load) -> Result<Report, Refusal>
     ensures value { result ≡ check_of s l }
     ensures refusal { result_err result ≡ first_failing (check_tests (counted s) (links_of s) l) }
-    ensures accurate { AccurateCheck s l result }
-    ensures best { BestLinks s result }
+    ensures accurate { AccurateCheck (counted s) l result }
+    ensures best { BestLinks (counted s) (links_of s) result }
 {
     let top = accept(&s)?;
     let links = counted_links(s.links);
@@ -96,4 +98,17 @@ pub fn check_section(s: Section, l: Load) -> Result<Report, Refusal>
         load: &l,
     };
     checking.report()
+}
+
+// Try a layer before it is placed: Check of the section with this layer at a place, from 0, in place of the one that stands there, or as one more where
+// the place is the number of layers. The section in hand stays as it is (02's ticket 9).
+// Refusals: 33 a place beyond the number of layers; then Check's, of the section so altered. Of more than sixteen layers 5 comes at its place.
+pub fn try_layer(s: Section, l: Load, place: usize, layer: Layer) -> Result<Report, Refusal>
+    ensures value { result ≡ trial_of s l place layer }
+    ensures refusal { result_err result ≡ first_failing (trial_tests (counted s) (links_of s) l place layer) }
+    ensures accurate { AccurateCheck (altered place layer (counted s)) l result }
+    ensures best { BestLinks (altered place layer (counted s)) (links_of s) result }
+{
+    Refusal::LayerPlace.unless(place <= s.count)?;
+    check_section(s.with_layer(place, layer), l)
 }

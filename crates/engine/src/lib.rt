@@ -1,4 +1,4 @@
-// The calls of document 01 for C: each answers document 01's numbers, a refusal with zeros. include/salwoerk.h describes them.
+// The calls of documents 01 and 02 for C: each answers the documents' numbers, a refusal with zeros. include/salwoerk.h describes them.
 
 #![tactic(auto)]
 
@@ -6,6 +6,7 @@ ghost use Rattle.std.specs.Prelude.{◌≤◌, ◌≡◌};
 ghost use Rattle.equilibrium.specs.Depth.{find_depth};
 ghost use Rattle.equilibrium.specs.Moment.{moment_at};
 ghost use Rattle.clauses.specs.Check.{check_of, listed};
+ghost use Rattle.clauses.specs.Trial.{trial_of};
 ghost use Rattle.section.specs.Section.{counted, links_of};
 ghost use Rattle.refusals.specs.Chain.{first_failing};
 ghost use Rattle.refusals.specs.Number.{number_or_0};
@@ -20,7 +21,7 @@ use clauses::Listed;
 use equilibrium::Depth;
 use record::{Reading, Written};
 use refusals::Refusal;
-use section::{Load, Section};
+use section::{Layer, Load, Section};
 
 // The refusal, 0 for none; the depth in tenths of a millimetre, up to 10h or beyond it; and the trials of the halving rule, 0 where refused
 // and beyond 10h. Numbers, as below: C has no Result.
@@ -94,6 +95,13 @@ pub extern "C" fn salwoerk_check(s: Section, l: Load) -> Listed
     ensures { result ≡ listed (check_of s l) }
 {
     clauses::numbers::check_listed(s, l)
+}
+
+#[unsafe(no_mangle)]
+pub extern "C" fn salwoerk_try_layer(s: Section, l: Load, place: usize, layer: Layer) -> Listed
+    ensures { result ≡ listed (trial_of s l place layer) }
+{
+    clauses::try_layer(s, l, place, layer).into()
 }
 
 #[unsafe(no_mangle)]

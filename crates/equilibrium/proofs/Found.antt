@@ -49,18 +49,18 @@ module _ (s : Section) (u : ℕ) where
 
   pub moment_refused : {r : Refusal} → accepted (counted s) ≡ Err r → moment_at s u ≡ Err r
   unfolding moment_in
-  moment_refused e = call_refused resists s in_depth e
+  moment_refused e = call_refused resists (counted s) in_depth e
 
   pub moment_ready : {x : Design} → accepted (counted s) ≡ Ok x
       → moment_at s u ≡ answer resists (option_or (test DepthRange (leb 1 u && leb u (30 * x.h))) None) (Ok x)
   unfolding moment_in
   moment_ready {x} e =
       let height : nat_abs s.height ≡ x.h = ap nat_abs (rw e at (section_promise s)).asked.height_is in
-      call_ready resists s in_depth e ∙ rw height
+      call_ready resists (counted s) in_depth e ∙ rw height
 
   pub moment_refusal : result_err (moment_at s u) ≡ first_failing (moment_tests (counted s) u)
   unfolding moment_in
-  moment_refusal = call_refusal resists s in_depth
+  moment_refusal = call_refusal resists (counted s) in_depth
 
   -- the second clause of `moment_at` follows from its first
   pub moment_clauses : {r : Result ℤ Refusal} → r ≡ moment_at s u → (r ≡ moment_at s u) × (result_err r ≡ first_failing (moment_tests (counted s) u))
@@ -194,12 +194,12 @@ module _ (s : Section) (N : ℤ) where
 
   pub find_refused : {r : Refusal} → accepted (counted s) ≡ Err r → find_depth s N ≡ Err r
   unfolding depth_in
-  find_refused e = call_refused found s under-load e
+  find_refused e = call_refused found (counted s) under-load e
 
   find_ready : {x : Design} → accepted (counted s) ≡ Ok x
       → find_depth s N ≡ depth_answer (layers_of s) N (option_or (test AxialForce (force_ok N)) (first_failing (face_tests x (layers_of s) N))) (Ok x)
   unfolding depth_in
-  find_ready e = call_ready found s under-load e
+  find_ready e = call_ready found (counted s) under-load e
 
   pub find_out : {x : Design} → accepted (counted s) ≡ Ok x → force_ok N ≡ false → find_depth s N ≡ Err AxialForce
   find_out e n = find_ready e ∙ rw n
@@ -210,7 +210,7 @@ module _ (s : Section) (N : ℤ) where
 
   find_refusal : result_err (find_depth s N) ≡ first_failing (find_depth_tests (counted s) N)
   unfolding depth_in
-  find_refusal = call_refusal found s under-load
+  find_refusal = call_refusal found (counted s) under-load
 
   -- ---- its accuracy, by cases of the section tests and of the load's
 

@@ -166,9 +166,11 @@ check_fits s l = go (accepted (counted s)) refl
   where
     under : {x : Design} (k : Option Refusal) → first_failing (load_link_tests (links_of s) l) ≡ k → accepted (counted s) ≡ Ok x
         → Fitting (listed (check_of s l))
-    under None none e = rw (← load_passed s l e none) (faces_fit (layers_of s) (links_of s) l (usable_by s e) (load-links-ok (links_of s) l none).load)
-    under (Some r) some e = rw (← load_refused s l e (sym some)) (err_fits r)
+    under None none e =
+        rw (← load_passed (counted s) (links_of s) l e none)
+        (faces_fit (layers_of s) (links_of s) l (usable_by s e) (load-links-ok (links_of s) l none).load)
+    under (Some r) some e = rw (← load_refused (counted s) (links_of s) l e (sym some)) (err_fits r)
 
     go : (a : Result Design Refusal) → accepted (counted s) ≡ a → Fitting (listed (check_of s l))
-    go (Err r) e = rw (← check_refused s l e) (err_fits r)
+    go (Err r) e = rw (← check_refused (counted s) (links_of s) l e) (err_fits r)
     go (Ok x) e = under (first_failing (load_link_tests (links_of s) l)) refl e

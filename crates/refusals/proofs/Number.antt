@@ -6,7 +6,7 @@ use Rattle.refusals.specs.declared.Refusal.TheVariants.{Width, Height, ConcreteC
 use Rattle.refusals.specs.declared.Refusal.TheVariants.{AxialForce, BendingMoment, ShearForce}
 use Rattle.refusals.specs.declared.Refusal.TheVariants.{ForceTooLow, ForceTooHigh, DepthRange, MapCut, UnknownField, RecordCut, FieldMissing}
 use Rattle.refusals.specs.declared.Refusal.TheVariants.{BufferTooShort, InputTooLong, LinkArea, LinkSpacing, LinksUnderForce, LayerSequence}
-use Rattle.refusals.specs.declared.Refusal.TheVariants.{DesignSituation, LongTermFactor}
+use Rattle.refusals.specs.declared.Refusal.TheVariants.{DesignSituation, LayerPlace, LongTermFactor}
 use Rattle.refusals.specs.Number.{number_of}
 
 pub number_small : (r : Refusal) → number_of r < 256
@@ -34,6 +34,7 @@ number_small LinkSpacing = lit< tt
 number_small LinksUnderForce = lit< tt
 number_small LayerSequence = lit< tt
 number_small DesignSituation = lit< tt
+number_small LayerPlace = lit< tt
 number_small LongTermFactor = lit< tt
 
 pub number_above_0 : (r : Refusal) → 0 < number_of r
@@ -61,4 +62,5 @@ number_above_0 LinkSpacing = lit< tt
 number_above_0 LinksUnderForce = lit< tt
 number_above_0 LayerSequence = lit< tt
 number_above_0 DesignSituation = lit< tt
+number_above_0 LayerPlace = lit< tt
 number_above_0 LongTermFactor = lit< tt

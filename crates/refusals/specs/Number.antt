@@ -1,11 +1,11 @@
--- The documents' number of each refusal: document 01, "When a call is turned down", and 02's tickets 3, 6, 8 and 10. Assumes nothing.
+-- The documents' number of each refusal: document 01, "When a call is turned down", and 02's tickets 3, 6, 8, 9 and 10. Assumes nothing.
 use Rattle.std.specs.Prelude.{ℕ, Option, None, Some, Result, Ok, Err}
 use Rattle.refusals.specs.declared.Refusal.{Refusal}
 use Rattle.refusals.specs.declared.Refusal.TheVariants.{Width, Height, ConcreteClass, SteelStrength, LayerCount, LayerDepth, LayerArea}
 use Rattle.refusals.specs.declared.Refusal.TheVariants.{AxialForce, BendingMoment, ShearForce}
 use Rattle.refusals.specs.declared.Refusal.TheVariants.{ForceTooLow, ForceTooHigh, DepthRange, MapCut, UnknownField, RecordCut, FieldMissing}
 use Rattle.refusals.specs.declared.Refusal.TheVariants.{BufferTooShort, InputTooLong, LinkArea, LinkSpacing, LinksUnderForce, LayerSequence}
-use Rattle.refusals.specs.declared.Refusal.TheVariants.{DesignSituation, LongTermFactor}
+use Rattle.refusals.specs.declared.Refusal.TheVariants.{DesignSituation, LayerPlace, LongTermFactor}
 
 abbrev pub number_of : Refusal → ℕ
 number_of Width = 1
@@ -32,6 +32,7 @@ number_of LinkSpacing = 28
 number_of LinksUnderForce = 29
 number_of LayerSequence = 31
 number_of DesignSituation = 32
+number_of LayerPlace = 33
 number_of LongTermFactor = 34
 
 -- the number of the first test that fails, 0 where none does

@@ -1,4 +1,4 @@
-// Why a call is turned down: document 01, "When a call is turned down", and 02's tickets 3, 6, 8 and 10. A refusal has a name here and a number there.
+// Why a call is turned down: document 01, "When a call is turned down", and 02's tickets 3, 6, 8, 9 and 10. A refusal has a name here and a number there.
 
 #![tactic(auto)]
 
@@ -58,6 +58,8 @@ pub enum Refusal {
     LayerSequence = 31,
     // situation other than 1 or 2
     DesignSituation = 32,
+    // a place beyond the number of layers
+    LayerPlace = 33,
     // αcc outside 0.80 to 1.00
     LongTermFactor = 34,
 }

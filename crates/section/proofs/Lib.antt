@@ -6,3 +6,4 @@ pub mod CountedLinks
 pub mod Rearranged
 pub mod InColumns
 pub mod Opened
+pub mod WithLayer

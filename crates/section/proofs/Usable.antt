@@ -139,42 +139,42 @@ ready_is c e m = rw (e, m)
 
 -- ---- a call that takes a section: its tests are the section tests and then `rest`
 
-module _ (s : Section) (rest : List (Option Refusal)) where
+module _ (c : Counted) (rest : List (Option Refusal)) where
   -- nothing more is asked of a section that is refused; of one that is accepted, the rest
-  first_refused : {r : Refusal} → accepted (counted s) ≡ Err r → first_failing (section_tests (counted s) ++ rest) ≡ Some r
+  first_refused : {r : Refusal} → accepted c ≡ Err r → first_failing (section_tests c ++ rest) ≡ Some r
   first_refused {r} e =
-      let is : Some r ≡ first_failing (section_tests (counted s)) = rw e at (section_refusal (counted s)) in
-      first_of (section_tests (counted s)) rest ∙ rw (sym is)
+      let is : Some r ≡ first_failing (section_tests c) = rw e at (section_refusal c) in
+      first_of (section_tests c) rest ∙ rw (sym is)
 
-  after_ready : {x : Design} → accepted (counted s) ≡ Ok x → first_failing (section_tests (counted s) ++ rest) ≡ first_failing rest
+  after_ready : {x : Design} → accepted c ≡ Ok x → first_failing (section_tests c ++ rest) ≡ first_failing rest
   after_ready e =
-      let is : None ≡ first_failing (section_tests (counted s)) = rw e at (section_refusal (counted s)) in
-      first_of (section_tests (counted s)) rest ∙ rw (sym is)
+      let is : None ≡ first_failing (section_tests c) = rw e at (section_refusal c) in
+      first_of (section_tests c) rest ∙ rw (sym is)
 
 module _ {A : Type 0} (found : Design → A) where
-  module _ (s : Section) (rest : Result Design Refusal → List (Option Refusal)) where
+  module _ (c : Counted) (rest : Result Design Refusal → List (Option Refusal)) where
     -- a section that is refused
-    pub call_refused : {r : Refusal} → accepted (counted s) ≡ Err r
-        → answer found (first_failing (section_tests (counted s) ++ rest (accepted (counted s)))) (accepted (counted s)) ≡ Err r
-    call_refused e = rw (first_refused s (rest (accepted (counted s))) e)
+    pub call_refused : {r : Refusal} → accepted c ≡ Err r
+        → answer found (first_failing (section_tests c ++ rest (accepted c))) (accepted c) ≡ Err r
+    call_refused e = rw (first_refused c (rest (accepted c)) e)
 
     -- one that is accepted: the rest decides
-    pub call_ready : {x : Design} → accepted (counted s) ≡ Ok x
-        → answer found (first_failing (section_tests (counted s) ++ rest (accepted (counted s)))) (accepted (counted s))
+    pub call_ready : {x : Design} → accepted c ≡ Ok x
+        → answer found (first_failing (section_tests c ++ rest (accepted c))) (accepted c)
         ≡ answer found (first_failing (rest (Ok x))) (Ok x)
-    call_ready {x} e = rw (after_ready s (rest (accepted (counted s))) e, e)
+    call_ready {x} e = rw (after_ready c (rest (accepted c)) e, e)
 
     -- the refusal of the answer is that of the first test that fails
-    pub call_refusal : result_err (answer found (first_failing (section_tests (counted s) ++ rest (accepted (counted s)))) (accepted (counted s)))
-        ≡ first_failing (section_tests (counted s) ++ rest (accepted (counted s)))
-    call_refusal = go (accepted (counted s)) _ refl refl
+    pub call_refusal : result_err (answer found (first_failing (section_tests c ++ rest (accepted c))) (accepted c))
+        ≡ first_failing (section_tests c ++ rest (accepted c))
+    call_refusal = go (accepted c) _ refl refl
       where
-        go : (a : Result Design Refusal) (k : Option Refusal) → accepted (counted s) ≡ a
-            → first_failing (section_tests (counted s) ++ rest (accepted (counted s))) ≡ k
+        go : (a : Result Design Refusal) (k : Option Refusal) → accepted c ≡ a
+            → first_failing (section_tests c ++ rest (accepted c)) ≡ k
             → result_err (answer found k a) ≡ k
         go a (Some r) e f = refl
         go (Ok x) None e f = refl
-        go (Err j) None e f = absurd (none-some j (sym f ∙ first_refused s (rest (accepted (counted s))) e))
+        go (Err j) None e f = absurd (none-some j (sym f ∙ first_refused c (rest (accepted c)) e))
 
 -- what `accept` answers of a section that it accepts
 pub accepted_of : (s : Section) {r : Result Accepted Refusal} {a : Accepted} → design_in r ≡ accepted (counted s) → layers_in a ≡ layers_of s → r ≡ Ok a

@@ -2,3 +2,4 @@
 pub mod Usable
 pub mod Accepted
 pub mod Columns
+pub mod Altered

@@ -4,3 +4,4 @@ pub mod Refusals
 pub mod Code
 pub mod Turned
 pub mod Rearranged
+pub mod Altered

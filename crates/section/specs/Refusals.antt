@@ -1,7 +1,7 @@
 -- When a call is turned down: document 01, and 02's tickets 3, 8 and 10. A call's sequence of tests is a list, in the documents' order;
 -- the first that fails gives the refusal. Here stand the tests of a section, of a load and of links, of which the sequences are made. The
--- sequences of Find a depth and Moment at a depth are on the page `Refusals` of the equilibrium, Check's on that of the clauses, those of
--- Read a record and Write a record on that of the records. Assumes nothing.
+-- sequences of Find a depth and Moment at a depth are on the page `Refusals` of the equilibrium, those of Check and Try a layer on that of
+-- the clauses, those of Read a record and Write a record on that of the records. Assumes nothing.
 use Rattle.std.specs.Prelude.{ℕ, ◌&&◌, ◌||◌, List, [], ◌∷◌, ◌++◌, leb, pos, nat_abs, Option, None, Some, Result, Ok, Err}
 use Rattle.std.specs.Result.{result_err}
 use Rattle.arith.specs.Integer.{in_range}

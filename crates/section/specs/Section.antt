@@ -37,7 +37,7 @@ depth_ok h l = leb 1 l.depth && ltb l.depth h
 abbrev pub area_ok : Layer → Bool
 area_ok l = leb 1 l.area && leb l.area 20000
 
--- ---- the links, which only Check, Read a record and Write a record look at
+-- ---- the links, which Find a depth and Moment at a depth do not look at
 
 -- present or absent as a whole: 0 is absent, any other number present
 abbrev pub absent : Links → Bool

@@ -1,9 +1,10 @@
 // A section of reinforced concrete and its load, and the tests that they pass before anything is computed: document 01, "What the
-// engine covers" and "When a call is turned down"; the links by 02's ticket 3.
+// engine covers" and "When a call is turned down"; the links by 02's ticket 3, a layer altered by its ticket 9.
 
 #![tactic(auto)]
 
 pub mod acceptance;
+mod altered;
 mod layers;
 
 ghost use Rattle.std.specs.Prelude.{take};

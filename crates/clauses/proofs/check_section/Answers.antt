@@ -26,8 +26,8 @@ use Rattle.clauses.proofs.check_section.Goals.{After-counted_links-links}
 clauses : (s : Section) (l : Load) {r : Result Report Refusal} → r ≡ check_of s l → record {
   value : r ≡ check_of s l;
   refusal : result_err r ≡ first_failing (check_tests (counted s) (links_of s) l);
-  accurate : AccurateCheck s l r;
-  best : BestLinks s r;
+  accurate : AccurateCheck (counted s) l r;
+  best : BestLinks (counted s) (links_of s) r;
 }
 clauses s l e =
     let all = check_clauses s l e in
@@ -43,14 +43,14 @@ module _ (c : After-counted_links-links) where
 
 pub returns-in_err-top : goal.returns-in_err-top
 returns-in_err-top c =
-    clauses c.args.s c.args.l (returned _ c.from_residual.ensures.1 ∙ check_refused c.args.s c.args.l (sym c.in_err-top.ensures.value))
+    clauses c.args.s c.args.l (returned _ c.from_residual.ensures.1 ∙ check_refused (counted c.args.s) (links_of c.args.s) c.args.l (sym c.in_err-top.ensures.value))
 
 pub returns-in_err-test_load_and_links : goal.returns-in_err-test_load_and_links
 returns-in_err-test_load_and_links c =
     let a = (goal.at.returns-in_err-test_load_and_links c).After-counted_links-links in
     let out = returned _ c.from_residual-in_err-test_load_and_links.ensures.1 in
     clauses c.args.s c.args.l
-    (out ∙ load_refused c.args.s c.args.l (top a).ready (c.in_err-test_load_and_links.ensures ∙ links_are a))
+    (out ∙ load_refused (counted c.args.s) (links_of c.args.s) c.args.l (top a).ready (c.in_err-test_load_and_links.ensures ∙ links_are a))
 
 pub invariant_of-checking : goal.invariant_of-checking
 invariant_of-checking c =
@@ -64,4 +64,4 @@ returns c =
     clauses c.args.s c.args.l
     (c.report.ensures
     ∙ (λ i. check_faces d ((top a).layers_are i) (turned d.h ((top a).layers_are i)) (c.counted_links-links.ensures i) c.args.l)
-    ∙ load_passed c.args.s c.args.l (top a).ready (sym (links_are a) ∙ sym c.in_ok-test_load_and_links.ensures))
+    ∙ load_passed (counted c.args.s) (links_of c.args.s) c.args.l (top a).ready (sym (links_are a) ∙ sym c.in_ok-test_load_and_links.ensures))
