@@ -2,6 +2,7 @@
 -- fails here. Assumes nothing.
 use Rattle.std.specs.Prelude.{ℕ, suc, ◌+◌, ◌*◌, ◌^◌, ◌≤◌, ◌<◌, true, false, not, ◌↔◌, ◌≡◌, refl, ℤ, pos, neg_ℤ, ◌<ℤ◌}
 use Rattle.std.specs.Prelude.{length, get_or, set, Some, Ok, Err}
+use native.Mathlib.Omega.{arith}
 use mathlib.Core.List.{List, [], ◌∷◌, ◌++◌, reverse, reverse_perm}
 use Rattle.std.specs.Result.{result_err}
 use Rattle.arith.specs.Integer.{in_range}
@@ -36,6 +37,7 @@ use Rattle.section.proofs.CountedLinks.{counted_twice}
 use Rattle.section.proofs.Turned.{usable_turned}
 use Rattle.section.proofs.Usable.{usable_by}
 use Rattle.section.proofs.Rearranged as section_sequence
+use Rattle.section.proofs.WithLayer as altered_section
 use Rattle.equilibrium.proofs.Found as equilibrium
 use Rattle.equilibrium.proofs.DepthOne as depth_one
 use Rattle.equilibrium.proofs.Halving as halving
@@ -271,12 +273,14 @@ copy s place l count =
 -- "Its answer is the one that Check gives for a copy so altered, refusals included": a layer is replaced
 pub trial_replaced : (s : Section) (load : Load) (place : ℕ) (l : Layer) → place < s.count
     → trial_of s load place l ≡ check_of (copy s place l s.count) load
-trial_replaced = trials.trial_replaced
+trial_replaced s load place l h =
+    trials.trial_as s (copy s place l s.count) load place l (omega (arith, h)) (altered_section.replaces s place l h) refl
 
 -- or one is added, where the section has a place for it
 pub trial_added : (s : Section) (load : Load) (l : Layer) → s.count < length s.layers
     → trial_of s load s.count l ≡ check_of (copy s s.count l (s.count + 1)) load
-trial_added = trials.trial_added
+trial_added s load l h =
+    trials.trial_as s (copy s s.count l (s.count + 1)) load s.count l (omega arith) (altered_section.adds s s.count l refl h) refl
 
 -- "with sixteen layers meets refusal 5 at its place in Check's sequence": b, h, fck, fyk, situation and αcc come before it
 pub trial_full : (s : Section) (load : Load) (place : ℕ) (l : Layer) → place ≡ s.count → 16 ≤ s.count

@@ -1,6 +1,6 @@
 -- Try a layer (document 02, ticket 9): the definition's answer is Check's of the section as the code holds it, and the clauses of that Check are those of
 -- the trial. Assumes nothing.
-use Prim.Native.Nat.{ℕ, ◌+◌, ◌≤◌, ◌<◌}
+use Prim.Native.Nat.{ℕ, ◌≤◌, ◌<◌}
 use mathlib.Core.Bool.{Bool, true, false, cond}
 use native.Mathlib.Omega.{arith}
 use mathlib.Core.Logic.{◌⊎◌, inl, inr}
@@ -23,7 +23,7 @@ use Rattle.section.specs.Section.{Counted, layers_of, counted, links_of}
 use Rattle.section.specs.Refusals.{accepted}
 use Rattle.section.specs.Altered.{altered}
 use Rattle.section.specs.Code.Altered.{with_layer}
-use Rattle.section.proofs.WithLayer.{tests_to_5, RefusedAlike, copy, replaces, adds, full, read_or_refused, altered_same}
+use Rattle.section.proofs.WithLayer.{tests_to_5, RefusedAlike, full, read_or_refused, altered_same}
 use Rattle.clauses.specs.declared.Report.{Report}
 use Rattle.clauses.specs.Refusals.{check_tests, trial_tests}
 use Rattle.clauses.specs.Check.{OfReport, check_in, check_of}
@@ -90,15 +90,10 @@ trial_copied s load place l n h = trial_at (counted s) (links_of s) load place l
 
 -- ---- laws that documents cite
 
--- "its answer is the one that Check gives for a copy so altered", a layer replaced or one added
-pub trial_replaced : (s : Section) (load : Load) (place : ℕ) (l : Layer) → place < s.count → trial_of s load place l ≡ check_of (copy s place l s.count) load
-trial_replaced s load place l h =
-    trial_at (counted s) (links_of s) load place l (omega (arith, h)) ∙ sym (ap (λ (c : Counted). check_in c (links_of s) load) (replaces s place l h))
-
-pub trial_added : (s : Section) (load : Load) (l : Layer) → s.count < length s.layers
-    → trial_of s load s.count l ≡ check_of (copy s s.count l (s.count + 1)) load
-trial_added s load l h =
-    trial_at (counted s) (links_of s) load s.count l (omega arith) ∙ sym (ap (λ (c : Counted). check_in c (links_of s) load) (adds s s.count l refl h))
+-- "its answer is the one that Check gives for a copy so altered": for whichever section is read so
+pub trial_as : (s t : Section) (load : Load) (place : ℕ) (l : Layer) → place ≤ s.count → counted t ≡ altered place l (counted s) → links_of t ≡ links_of s
+    → trial_of s load place l ≡ check_of t load
+trial_as s t load place l h e f = trial_at (counted s) (links_of s) load place l h ∙ sym (λ i. check_in (e i) (f i) load)
 
 -- 33 comes before everything
 pub trial_place_beyond : (s : Section) (load : Load) (place : ℕ) (l : Layer) → s.count < place → trial_of s load place l ≡ Err LayerPlace

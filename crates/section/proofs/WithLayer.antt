@@ -9,7 +9,7 @@ use native.Mathlib.Omega.{arith}
 use native.Mathlib.Decide.{dec_lt}
 use lib.Dec.{leb}
 use lib.IntN.{pos}
-use lib.ListN.{length, get_or, set}
+use lib.ListN.{length, get_or, set, take}
 use lib.Seq.{take-set-lt, take-suc-set, set-get_or}
 use borrow.Author.Tests.{eq-eqb, ne_eqb}
 use Rattle.std.specs.Prelude.{Option, None, Some, Err}
@@ -87,17 +87,9 @@ many_more : (n : ℕ) → 16 ≤ n → 16 < min (n + 1) 18446744073709551615
 many_more n h = grind arith
 
 module _ (s : Section) (place : ℕ) (l : Layer) where
-  -- with this layer written at the place, and this number of layers
-  abbrev pub copy : ℕ → Section
-  copy count =
-      record {
-        layers = set s.layers place l;
-        width = s.width;
-        height = s.height;
-        grade = s.grade;
-        links = s.links;
-        count = count;
-      }
+  -- what is read of it with this layer written at the place, and this number of layers
+  abbrev pub with_count : ℕ → Counted
+  with_count n = record { width = s.width; height = s.height; grade = s.grade; count = n; layers = take n (set s.layers place l) }
 
   abbrev held : Counted
   held = counted (with_layer place l s)
@@ -106,11 +98,11 @@ module _ (s : Section) (place : ℕ) (l : Layer) where
   defined = altered place l (counted s)
 
   -- a layer stands there
-  pub replaces : place < s.count → counted (copy s.count) ≡ defined
+  pub replaces : place < s.count → with_count s.count ≡ defined
   replaces h = rw (ne_eqb place s.count (λ e. omega (arith, e, h)), take-set-lt s.count s.layers place l h) refl
 
   -- it is the number, and one of the sixteen places is free
-  pub adds : place ≡ s.count → s.count < length s.layers → counted (copy (s.count + 1)) ≡ defined
+  pub adds : place ≡ s.count → s.count < length s.layers → with_count (s.count + 1) ≡ defined
   adds e n =
       let one : s.count + 1 ≡ suc s.count = omega arith in
       rw (eq-eqb place s.count e, e, one, take-suc-set s.layers s.count l n) refl
