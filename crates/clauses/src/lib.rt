@@ -83,6 +83,7 @@ pub struct Listed {
 // Refusals: the section tests, the load tests, those of the links, 11 N below the internal force at depth 1, 12 no u up to 30h reaches N, of
 // either face.
 // The sequence of the layers makes no difference: law `rearranged_check` (02's ticket 2).
+#[inline(always)] // else a section that C hands by value is copied
 pub fn check_section(s: Section, l: Load) -> Result<Report, Refusal>
     ensures value { result ≡ check_of s l }
     ensures refusal { result_err result ≡ first_failing (check_tests (counted s) (links_of s) l) }

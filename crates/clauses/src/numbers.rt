@@ -63,6 +63,7 @@ impl From<Result<Report, Refusal>> for Listed {
 }
 
 // Check in these numbers: what C and the list are given.
+#[inline(always)] // else section and load are copied once more
 pub fn check_listed(s: Section, l: Load) -> Listed
     ensures { result ≡ listed (check_of s l) }
 {

@@ -9,9 +9,8 @@ use borrow.Author.Tests.{lt-ltb, le-ltb, ltb-true, ltb-false}
 use lib.Dec.{lit<, ltb}
 use lib.IntN.{ℤ, pos, negsuc, nat_abs}
 use lib.ListN.{length, length-append}
-use lib.Signed.{mag}
-use Rattle.std.specs.Fmt.{decimal, signed_decimal}
-use Rattle.std.proofs.lemmas.Fmt.{decimal_from_appends, length-decimal-le_succ}
+use lib.Signed.{◌<ℤ◌, ◌≤ℤ◌}
+use Rattle.arith.proofs.Ring.{of_lt}
 use Rattle.listing.specs.Text.{digit, digits_in, natural, integer}
 
 -- one step of the definition
@@ -68,16 +67,14 @@ unfolding integer
 integer-most (pos n) h = natural-most 19 n (omega arith)
 integer-most (negsuc n) h = omega (arith, natural-most 18 (suc n) (omega arith))
 
--- ---- what the library writes
+-- ---- signs
 
--- the same digits
-pub natural-decimal : (n : ℕ) → n < 2 ^ 64 → decimal n ≡ natural n
-unfolding natural
-natural-decimal n h =
-    sym (decimal_from_appends digits_in (record { one = few; more = many }) (suc n) n h (omega (arith, length-decimal-le_succ n h)))
-
--- and the same sign
-pub integer-decimal : (x : ℤ) → mag x < 2 ^ 63 → signed_decimal x ≡ integer x
+pub integer-low : (x : ℤ) → x <ℤ pos 0 → integer x ≡ 45 ∷ natural (nat_abs x)
 unfolding integer
-integer-decimal (pos n) h = natural-decimal n (omega arith)
-integer-decimal (negsuc n) h = ap (λ (l : List ℕ). 45 ∷ l) (natural-decimal (suc n) (omega arith))
+integer-low (pos n) h = absurd (omega (arith, of_lt (pos n) (pos 0) h))
+integer-low (negsuc n) h = refl
+
+pub integer-high : (x : ℤ) → pos 0 ≤ℤ x → integer x ≡ natural (nat_abs x)
+unfolding integer
+integer-high (pos n) h = refl
+integer-high (negsuc n) h = absurd h.le

@@ -1,10 +1,11 @@
 -- Writing one text after another into a buffer. Assumes nothing.
-use mathlib.Core.Path.{◌≡◌, refl, ap, ap₂, ◌∙◌}
+use mathlib.Core.Path.{◌≡◌, refl, sym, ap, ap₂, ◌∙◌}
 use mathlib.Core.List.{List, [], ◌∷◌, ◌++◌}
-use Prim.Native.Nat.{ℕ, ◌+◌, ◌≤◌}
+use Prim.Native.Nat.{ℕ, ◌+◌, ◌≤◌, ◌<◌}
 use native.Mathlib.Numerals.{add-one}
 use native.Mathlib.Omega.{arith}
-use lib.ListN.{length, length-append}
+use lib.ListN.{length, take, drop, set, length-append}
+use lib.Seq.{set_split}
 use Rattle.record.specs.Bytes.{placed}
 use Rattle.record.proofs.Lent.{placed_none, placed_more, length-placed}
 use Rattle.clauses.specs.declared.Listed.{Listed}
@@ -12,6 +13,11 @@ use Rattle.record.specs.declared.Reading.{Reading}
 use Rattle.listing.specs.Line.{line}
 use Rattle.listing.specs.Records.{answer_of, lines}
 use Rattle.listing.specs.Code.Buffer.{Put}
+
+-- one byte
+pub stored : (xs : List ℕ) (at b : ℕ) → at < length xs → Put xs at (b ∷ []) (set xs at b) (at + 1)
+unfolding placed
+stored xs at b h = record { end = refl; bytes = set_split xs at b h ∙ ap (λ (k : ℕ). take at xs ++ (b ∷ drop k xs)) (sym (add-one at)) }
 
 -- the same text
 pub same_text : {xs ys : List ℕ} {at next : ℕ} {s t : List ℕ} → s ≡ t → Put xs at s ys next → Put xs at t ys next

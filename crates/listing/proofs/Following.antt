@@ -5,11 +5,29 @@ use mathlib.Core.List.{List, [], ◌∷◌}
 use Prim.Native.Nat.{ℕ, zero, suc, ◌-◌, ◌≤◌, ◌<◌}
 use native.Mathlib.Numerals.{sub-one}
 use native.Mathlib.Omega.{arith}
+use borrow.Author.Tests.{ne_eqb, eqb-false}
+use lib.Dec.{eqb}
 use lib.ListN.{length, drop}
 use Rattle.record.specs.declared.Reading.{Reading}
 use Rattle.record.specs.Read.{read_of}
 use Rattle.listing.specs.Records.{ends, readings, GoesOn}
 use Rattle.listing.proofs.Lengths.{span}
+
+-- ---- 20, 21 and 22
+pub ends_yes : (k : ℕ) → 20 ≤ k → k < 23 → ends k ≡ true
+ends_yes k h g = go (eqb k 20) (eqb k 21) (eqb k 22) refl refl refl
+  where
+    go : (a b c : Bool) → eqb k 20 ≡ a → eqb k 21 ≡ b → eqb k 22 ≡ c → cond a true (cond b true (cond c true false)) ≡ true
+    go true b c p q r = refl
+    go false true c p q r = refl
+    go false false true p q r = refl
+    go false false false p q r = absurd (eqb-false k 22 r (only (eqb-false k 20 p) (eqb-false k 21 q)))
+      where
+        only : (k ≡ 20 → ⊥) → (k ≡ 21 → ⊥) → k ≡ 22
+        only u v = omega arith
+
+pub ends_no : (k : ℕ) → (k ≡ 20 → ⊥) → (k ≡ 21 → ⊥) → (k ≡ 22 → ⊥) → ends k ≡ false
+ends_no k a b c = rw (ne_eqb k 20 a, ne_eqb k 21 b, ne_eqb k 22 c)
 
 -- ---- the records
 pub none_left : (xs : List ℕ) → length xs ≡ 0 → readings 0 xs ≡ []

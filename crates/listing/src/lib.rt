@@ -5,6 +5,7 @@
 mod entries;
 mod line;
 mod records;
+mod text;
 
 ghost use Rattle.std.specs.Prelude.{◌≡◌, ◌+◌, ◌≤◌, leb, length};
 ghost use Rattle.record.specs.Write.{written_as};
@@ -15,19 +16,10 @@ ghost use Rattle.listing.specs.Program.{too_long};
 
 use clauses::numbers::refused_listed;
 use entries::entry_of;
-use line::line_of;
-use record::{Written, put};
+use line::put_line;
+use record::Written;
 use records::Records;
 use refusals::Refusal;
-
-// A text, at the place `at` of `out`; answers the place after it. (A line lies where those before it end.)
-fn put_text(out: &mut [u8], at: usize, text: &[u8]) -> usize
-    requires { at + length text.now ≤ length out.old }
-    ensures { Put out.old at text.now out.new result }
-{
-    put(out, at, text);
-    at + text.len()
-}
 
 // The lines of the records in `input`, at the start of `out`; answers how many bytes they are.
 fn put_lines(input: &[u8], out: &mut [u8]) -> usize
@@ -38,8 +30,7 @@ fn put_lines(input: &[u8], out: &mut [u8]) -> usize
     let mut at = 0usize;
     for (before, reading) in records.enumerate() {
         // `as`, proved not to lose: u64 has no From of usize
-        let line = line_of(before as u64 + 1, &entry_of(&reading));
-        at = put_text(out, at, line.as_bytes());
+        at = put_line(out, at, before as u64 + 1, &entry_of(&reading));
     }
     at
 }
@@ -66,8 +57,8 @@ fn put_too_long(out: &mut [u8]) -> Result<usize, Refusal>
     ensures lent { out.new ≡ text_buffer (room_for 0) too_long out.old }
 {
     Refusal::BufferTooShort.unless(long_enough(0, out.len()))?;
-    let line = line_of(0, &refused_listed(Refusal::InputTooLong.number()));
-    Ok(put_text(out, 0, line.as_bytes()))
+    let listed = refused_listed(Refusal::InputTooLong.number());
+    Ok(put_line(out, 0, 0, &listed))
 }
 
 // The list of `input`, as C is answered.

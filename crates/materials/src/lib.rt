@@ -197,6 +197,7 @@ impl PartialFactors {
 
     // All of them, of a class, a steel and an αcc that passed their tests. (Five with `self`: fck, fyk and αcc are a `Grade`'s, which has them signed and
     // untested, as a record does; here they are past their tests.)
+    #[inline(always)] // else what it answers is copied once more
     fn design_values(self, fck: u64, fyk: u64, alphacc: u64, class: Class) -> Materials
         requires { (find fck table ≡ Some class) × ((fyk ≤ 600) × (alphacc ≤ 100)) }
         ensures { result ≡ numbers (long_term alphacc) (scaled self) fck fyk class }

@@ -1,8 +1,8 @@
 -- Big-endian bytes and two's complement. Assumes nothing.
 use mathlib.Core.Path.{◌≡◌, refl, sym, ap, ap₂, ◌∙◌}
-use mathlib.Core.List.{List, [], ◌∷◌, ◌++◌, append_assoc}
+use mathlib.Core.List.{List, [], ◌∷◌, ◌++◌, append_assoc, append-nil}
 use Prim.Native.Nat.{ℕ, zero, suc, ◌+◌, ◌-◌, ◌*◌, ◌/◌, ◌%◌, ◌^◌, ◌≤◌, ◌<◌, zero-le}
-use native.Mathlib.Nat.{lt_of_lt_of_le, pow-suc, pow-succ', pow-le-pow_right, mod-one, div-div-eq-div-mul}
+use native.Mathlib.Nat.{lt_of_lt_of_le, pow-suc, pow-succ', pow-le-pow_right, add-zero, add-suc, mul_assoc, mod-one, div-div-eq-div-mul}
 use native.Mathlib.Numerals.{add-one}
 use native.Mathlib.Omega.{arith}
 use borrow.Author.Tests.{lt-ltb, le-ltb, ltb-false}
@@ -34,6 +34,25 @@ pub length_bytes : (n v : ℕ) → length (bytes_of n v) ≡ n
 unfolding bytes_of
 length_bytes zero v = refl
 length_bytes (suc n) v = length-append (bytes_of n (v / 256)) (v % 256 ∷ []) ∙ ap (λ (k : ℕ). k + 1) (length_bytes n (v / 256)) ∙ add-one n
+
+-- a number of two parts: the bytes of the high one, and then those of the low one
+pub pair : (i j d a : ℕ) → a < 256 ^ j → bytes_of (i + j) (d * 256 ^ j + a) ≡ bytes_of i d ++ bytes_of j a
+unfolding bytes_of
+pair i zero d a h = ap₂ bytes_of (add-zero i) (omega arith) ∙ sym (append-nil (bytes_of i d))
+pair i (suc j) d a h =
+    let e : d * 256 ^ suc j + a ≡ d * 256 ^ j * 256 + a = ap (λ (x : ℕ). d * x + a) (pow-suc 256 j) ∙ ap (λ (x : ℕ). x + a) (sym (mul_assoc d (256 ^ j) 256)) in
+    let s = shift (d * 256 ^ j) a in
+    let low : a / 256 < 256 ^ j = below (256 ^ j) (rw (pow-suc 256 j) at h) in
+    ap₂ bytes_of (add-suc i j) e
+    ∙ ap₂ (λ (x y : ℕ). bytes_of (i + j) x ++ (y ∷ [])) s.0 s.1
+    ∙ ap (λ (l : List ℕ). l ++ (a % 256 ∷ [])) (pair i j d (a / 256) low)
+    ∙ append_assoc (bytes_of i d) (bytes_of j (a / 256)) (a % 256 ∷ [])
+  where
+    shift : (x a : ℕ) → ((x * 256 + a) / 256 ≡ x + a / 256) × ((x * 256 + a) % 256 ≡ a % 256)
+    shift x a = (omega arith, omega arith)
+
+    below : (x : ℕ) → a < x * 256 → a / 256 < x
+    below x h = omega arith
 
 -- what was written is read
 pub number_at-bytes_of : (n v : ℕ) (p q : List ℕ) → number_at (p ++ (bytes_of n v ++ q)) (length p) n ≡ v % 256 ^ n

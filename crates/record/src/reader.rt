@@ -156,6 +156,22 @@ impl<'a> Mapped<'a> {
             load: self.load(),
         }
     }
+
+    // The same, where it passes the test 23, which asks the map alone, so that nothing more is read of what it refuses; then the section tests, 31,
+    // which is asked here only, the load tests and those of the links.
+    fn held(&self) -> Result<Record, Refusal>
+        ensures refusal { result_err result ≡ first_failing (held_tests self.now.map
+            (section_of self.now.bytes.now self.now.map) (load_of self.now.bytes.now self.now.map)) }
+        ensures ok { IfOk result (λ r. (r.length ≡ record_length self.now.map)
+            × ((r.section ≡ section_of self.now.bytes.now self.now.map) × (r.load ≡ load_of self.now.bytes.now self.now.map))) }
+    {
+        Refusal::FieldMissing.unless(is_complete(self.map))?;
+        let record = self.record();
+        accept(&record.section)?;
+        Refusal::LayerSequence.unless(in_sequence(record.section))?;
+        test_load_and_links(&counted_links(record.section.links), &record.load)?;
+        Ok(record)
+    }
 }
 
 // What is answered of a refusal for its section. (Zeros written out: a `Default` of these structs would offer a section that no call accepts.)
@@ -199,25 +215,13 @@ impl From<Result<Record, Refused>> for Reading {
     }
 }
 
-// The test 23, then the section tests, 31, which is asked here only, the load tests and those of the links.
-fn test_held(map: u32, r: &Record) -> Result<(), Refusal>
-    ensures { result_err result ≡ first_failing (held_tests map r.now.section r.now.load) }
-{
-    Refusal::FieldMissing.unless(is_complete(map))?;
-    accept(&r.section)?;
-    Refusal::LayerSequence.unless(in_sequence(r.section))?;
-    test_load_and_links(&counted_links(r.section.links), &r.load)
-}
-
 // A refusal by the tests of the map, 20 to 22, answers no length, and one by those after them does.
 fn record_in(bytes: &[u8]) -> Result<Record, Refused>
     ensures { reading_as result ≡ read_of bytes.now }
 {
     let mapped = Mapped::new(bytes).map_err(|refusal| Refused { refusal, length: 0 })?;
-    let record = mapped.record();
-    let length = record.length;
-    test_held(mapped.map, &record).map_err(|refusal| Refused { refusal, length })?;
-    Ok(record)
+    let length = record_length(mapped.map);
+    mapped.held().map_err(|refusal| Refused { refusal, length })
 }
 
 // The record that the bytes begin with, or why there is none: 20, 21, 22, 23, then the section tests, 31, the load tests and those of the

@@ -1,5 +1,5 @@
 -- Writing the lines of the records that are left finishes the list.
-use mathlib.Core.Path.{◌≡◌, ap, ◌∙◌}
+use mathlib.Core.Path.{◌≡◌, ap}
 use mathlib.Core.List.{List, ◌++◌}
 use Prim.Native.Nat.{ℕ, ◌+◌, ◌^◌, ◌<◌}
 use native.Mathlib.Omega.{arith}
@@ -12,7 +12,7 @@ use Rattle.listing.specs.Records.{list_of, lines, records_left}
 use Rattle.listing.proofs.Finishing.{Left, begun, line_first, next_in, has_room, finished, same_text}
 use Rattle.listing.proofs.Following.{readings-few}
 use Rattle.listing.proofs.put_lines.Goals as goal
-use Rattle.listing.proofs.put_lines.Goals.{After-as_bytes}
+use Rattle.listing.proofs.put_lines.Goals.{After-entry_of}
 
 -- the numbers fit
 pub loop-before-init-derived : goal.loop-before-init-derived
@@ -32,17 +32,15 @@ loop-before-init c =
     rw (at_first, all) (begun _ _ _)
 
 -- the record at hand and its line
-module _ (c : After-as_bytes) where
+module _ (c : After-entry_of) where
   abbrev before : ℕ
   before = enumerate_count c.loop-before.before-iterator
 
   abbrev entry : Listed
   entry = c.entry_of.result
 
-  text_is : c.as_bytes.result.now ≡ line (before + 1) entry
-  text_is =
-      c.as_bytes.ensures.value ∙ c.deref.ensures.0 ∙ c.line_of-line.ensures
-      ∙ ap (λ (k : ℕ). line (k + 1) entry) c.in-Some.ensures.steps.1
+  line_is : line (c.in-Some.before + 1) entry ≡ line (before + 1) entry
+  line_is = ap (λ (k : ℕ). line (k + 1) entry) c.in-Some.ensures.steps.1
 
   -- the lines of the records after it
   abbrev others : List ℕ
@@ -51,15 +49,15 @@ module _ (c : After-as_bytes) where
   left : Left c.args.out.now 0 (list_of c.args.input.now) c.loop-before.out c.loop-before.at (line (before + 1) entry ++ others)
   left = line_first (before + 1) c.in-Some.ensures.steps.0 c.entry_of.ensures c.loop-before.invariant
 
-pub put_text-at-requires : goal.put_text-at-requires
-put_text-at-requires c =
-    let h = (goal.at.put_text-at-requires c).After-as_bytes in
-    rw (text_is h) (has_room (line (before h + 1) (entry h)) (others h) (omega (arith, c.requires)) (left h))
+pub put_line-at-requires : goal.put_line-at-requires
+put_line-at-requires c =
+    let h = (goal.at.put_line-at-requires c).After-entry_of in
+    rw (line_is h) (has_room (line (before h + 1) (entry h)) (others h) (omega (arith, c.requires)) (left h))
 
 pub loop-before-preserved : goal.loop-before-preserved
 loop-before-preserved c =
-    let h = (goal.at.loop-before-preserved c).After-as_bytes in
-    rw c.in-Some.ensures.steps.2 (next_in (others h) (omega (arith, c.requires)) (left h) (same_text (text_is h) c.put_text-at.ensures))
+    let h = (goal.at.loop-before-preserved c).After-entry_of in
+    rw c.in-Some.ensures.steps.2 (next_in (others h) (omega (arith, c.requires)) (left h) (same_text (line_is h) c.put_line-at.ensures))
 
 -- the records end
 pub returns : goal.returns

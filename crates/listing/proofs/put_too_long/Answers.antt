@@ -11,9 +11,9 @@ use Rattle.listing.specs.Code.Buffer.{room_for}
 use Rattle.listing.proofs.Longest.{refused_line}
 use Rattle.listing.proofs.put_too_long.Goals as goal
 
-pub put_text-requires : goal.put_text-requires
-put_text-requires c =
-    let listed = c.refused_listed.ensures ∙ ap refused_listed c.number.ensures in
-    let text = ap length (c.as_bytes.ensures.value ∙ c.deref.ensures.0 ∙ c.line_of-line.ensures ∙ ap (line 0) listed) in
+pub put_line-requires : goal.put_line-requires
+put_line-requires c =
+    let listed = c.refused_listed-listed.ensures ∙ ap refused_listed c.number.ensures in
+    let text = ap (λ a. length (line 0 a)) listed in
     let room = leb-true (room_for 0) (length c.args.out.now) (sym c.long_enough.ensures ∙ passed _ c.unless.ensures c.in_ok-unless.was) in
     omega (arith, refused_line 0 26 (lit< tt) (lit< tt))
