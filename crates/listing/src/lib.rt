@@ -7,7 +7,7 @@ mod line;
 mod records;
 mod text;
 
-ghost use Rattle.std.specs.Prelude.{◌≡◌, ◌+◌, ◌≤◌, leb, length};
+ghost use Rattle.std.specs.Prelude.{◌≡◌, ◌≤◌, leb, length};
 ghost use Rattle.record.specs.Write.{written_as};
 ghost use Rattle.listing.specs.Records.{list_of};
 ghost use Rattle.listing.specs.Code.Buffer.{Put, room_for};

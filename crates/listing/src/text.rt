@@ -1,5 +1,5 @@
 // Decimal text into a lent buffer. Each function answers the place after its text. (By hand: with the kit's `itoa` and a line of its `arrayvec` a list of
-// refused records took two to four times as long.)
+// refused records took half as long again, up to two and a half times as long, even with a number of one digit pushed by itself.)
 ghost use Rattle.std.specs.Prelude.{◌+◌, ◌≤◌, [], ◌∷◌, map, length};
 ghost use Rattle.listing.specs.Text.{natural, integer};
 ghost use Rattle.listing.specs.Line.{spaced};

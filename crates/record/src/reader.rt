@@ -5,7 +5,6 @@ ghost use Rattle.refusals.specs.Number.{number_or_0};
 ghost use Rattle.refusals.specs.Chain.{first_failing};
 ghost use Rattle.section.specs.Section.{no_links};
 ghost use Rattle.record.specs.Fields.{field_of, is_number};
-ghost use Rattle.record.specs.Bytes.{number_at};
 ghost use Rattle.record.specs.Map.{record_length};
 ghost use Rattle.record.specs.Contents.{number_of, links_in, layer_at, layers_in, filled, section_with, section_of, load_of};
 ghost use Rattle.record.specs.Refusals.{map_in, map_tests, held_tests, read_tests};
@@ -162,8 +161,9 @@ impl<'a> Mapped<'a> {
     fn held(&self) -> Result<Record, Refusal>
         ensures refusal { result_err result ≡ first_failing (held_tests self.now.map
             (section_of self.now.bytes.now self.now.map) (load_of self.now.bytes.now self.now.map)) }
-        ensures ok { IfOk result (λ r. (r.length ≡ record_length self.now.map)
-            × ((r.section ≡ section_of self.now.bytes.now self.now.map) × (r.load ≡ load_of self.now.bytes.now self.now.map))) }
+        ensures length { IfOk result (λ r. r.length ≡ record_length self.now.map) }
+        ensures section { IfOk result (λ r. r.section ≡ section_of self.now.bytes.now self.now.map) }
+        ensures load { IfOk result (λ r. r.load ≡ load_of self.now.bytes.now self.now.map) }
     {
         Refusal::FieldMissing.unless(is_complete(self.map))?;
         let record = self.record();

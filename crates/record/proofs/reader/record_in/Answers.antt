@@ -51,8 +51,8 @@ returns c =
     let n = c.record_length-length.result in
     either_way _ c.held.result c.map_err-2.result n c.map_err-2.ensures.cases (λ e r k. search rules) (λ y. reading_as y ≡ read_of (xs k))
     (λ r was.
-    let of = (rw was at c.held.ensures.ok) in
-    let section = of.1.0 ∙ ap₂ section_of (same k).0 (same k).1 in
-    let load = of.1.1 ∙ ap₂ load_of (same k).0 (same k).1 in
-    (λ i. accepted_reading ((of.0 ∙ ap record_length (same k).1) i) (section i) (load i)) ∙ none_refused (xs k) (map_passed k) (held_are k ∙ ap result_err was))
+    let length = (rw was at c.held.ensures.length) ∙ ap record_length (same k).1 in
+    let section = (rw was at c.held.ensures.section) ∙ ap₂ section_of (same k).0 (same k).1 in
+    let load = (rw was at c.held.ensures.load) ∙ ap₂ load_of (same k).0 (same k).1 in
+    (λ i. accepted_reading (length i) (section i) (load i)) ∙ none_refused (xs k) (map_passed k) (held_are k ∙ ap result_err was))
     (λ e was. ap (refused_reading e) (length_is k) ∙ held_refused (xs k) (map_passed k) (held_are k ∙ ap result_err was))
